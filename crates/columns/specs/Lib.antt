@@ -1,0 +1,5 @@
+pub mod Refusals
+pub mod Number
+pub mod Reading
+pub mod Writing
+pub mod Scanning
