@@ -1,21 +1,20 @@
 -- The reader's pass, with numbers of any size: it finds the number that the columns write, and no other.
-use mathlib.Core.Path.{_≡_, refl, sym, ap, subst, _∙_}
-use mathlib.Core.Bool.{Bool, true, false, cond, _&&_}
-use mathlib.Core.List.{List, [], _∷_, _++_, append-assoc, append-nil}
-use mathlib.Core.Logic.{_⊎_, inl, inr}
+use mathlib.Core.Path.{_≡_, refl, ap, _∙_}
+use mathlib.Core.Bool.{cond}
+use mathlib.Core.List.{List, [], _∷_, _++_}
+use mathlib.Core.Logic.{inl, inr}
 use Prim.Native.Nat.{ℕ, zero, suc, _+_, _-_, _*_, _/_, _%_, _<_, _≤_}
 use native.Mathlib.Omega.{arith}
 use lib.Dec.{eqb}
 use lib.IntN.{ℤ, pos, negsuc}
 use lib.ListN.{length, replicate}
-use Rattle.std.proofs.shelf.Lists.{length-append, length-replicate, replicate-more}
-use Rattle.std.proofs.shelf.Tests.{cases-lt, cond-both}
+use Rattle.std.proofs.shelf.Tests.{cases-lt}
 use Rattle.std.proofs.shelf.Ways.{tells}
 use Rattle.std.specs.declared.option.Option.{Option}
 use Rattle.std.specs.declared.option.Option.the-variants.{Some, None}
 use Rattle.columns.specs.Number.{digits, text, field}
 use Rattle.columns.specs.Scanning.{digit-from}
-use Rattle.columns.proofs.Texts.{high, digits-high, high-step, digits-last, digits-one, digits-push, push, text-push-pos, text-push-neg}
+use Rattle.columns.proofs.Texts.{high, digits-high, high-step, push}
 
 pub data Scan : Type 0 where
   blanks : Scan

@@ -1,19 +1,15 @@
 -- The text of a number grows by a digit at its end.
 use mathlib.Core.Path.{_≡_, refl, sym, ap, _∙_}
-use mathlib.Core.Bool.{cond, true, false}
-use mathlib.Core.List.{List, [], _∷_, _++_, map, append-assoc}
-use Prim.Native.Nat.{ℕ, zero, suc, _+_, _-_, _*_, _/_, _%_, _^_, _<_, _≤_}
+use mathlib.Core.List.{List, [], _∷_, _++_, map}
+use Prim.Native.Nat.{ℕ, zero, suc, _+_, _*_, _/_, _%_, _<_}
 use native.Mathlib.Omega.{arith}
 use lib.Dec.{eqb}
 use lib.IntN.{ℤ, pos, negsuc}
-use lib.ListN.{length, replicate}
 use Rattle.std.specs.shelf.Digits.{digitsOf}
-use Rattle.std.specs.shelf.Lists.{All}
-use Rattle.std.proofs.shelf.Digits.{digitsOf-step, length-digitsOf-le, under-digitsOf}
-use Rattle.std.proofs.shelf.Elements.{all-append, all-map, all-weaker, all-from-getD}
-use Rattle.std.proofs.shelf.Lists.{map-append, map-push, length-map, length-append, length-replicate, getD-replicate}
-use Rattle.std.proofs.shelf.Tests.{ne-eqb, cond-false, cases-eq}
-use Rattle.columns.specs.Number.{digits, text, field}
+use Rattle.std.proofs.shelf.Digits.{digitsOf-step}
+use Rattle.std.proofs.shelf.Lists.{map-push}
+use Rattle.std.proofs.shelf.Tests.{ne-eqb, cond-false}
+use Rattle.columns.specs.Number.{digits, text}
 
 -- the digits above the last one, none for a number of one digit
 abbrev pub high : ℕ → List ℕ

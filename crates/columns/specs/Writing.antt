@@ -30,3 +30,7 @@ signed false n = pos n
 abbrev pub front : ℕ → Bool → List ℕ
 front k true = replicate (k - 1) 32 ++ (45 ∷ [])
 front k false = replicate k 32
+
+abbrev pub sign-width : Bool → ℕ
+sign-width true = 1
+sign-width false = 0

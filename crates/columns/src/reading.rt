@@ -29,7 +29,7 @@ pub fn read_signed(columns: &[u8], least: i64, most: i64) -> Result<i64, ReadRef
     ensures only { λ r. ⌜ ((s : Result ℤ ReadRefusal) → ReadsSigned least most (now (columns .entry)) s → s ≡ r) ⌝ }
 {
     match scanned(columns) {
-        Some(found) => signed_within(signed_value(found), least, most),
+        Some(found) => signed_within(found, least, most),
         None => Err(ReadRefusal::Form),
     }
 }
@@ -43,10 +43,10 @@ fn unsigned_within(found: Number, least: u64, most: u64) -> Result<u64, ReadRefu
     }
 }
 
-fn signed_within(found: Option<i64>, least: i64, most: i64) -> Result<i64, ReadRefusal>
-    ensures { λ r. ⌜ r ≡ signed-within least most found ⌝ }
+fn signed_within(found: Number, least: i64, most: i64) -> Result<i64, ReadRefusal>
+    ensures { λ r. ⌜ r ≡ signed-within least most (signed-value found) ⌝ }
 {
-    match found {
+    match signed_value(found) {
         Some(z) if least <= z && z <= most => Ok(z),
         _ => Err(ReadRefusal::Range),
     }

@@ -1,12 +1,11 @@
 // Writes a number into the columns of a field, from the right.
 ghost use mathlib.Core.Path.{_≡_};
 ghost use mathlib.Core.Bool.{true};
-ghost use mathlib.Core.List.{_++_};
-ghost use Prim.Native.Nat.{ℕ, _<_};
+ghost use Prim.Native.Nat.{_<_, _≤_};
 ghost use lib.IntN.{pos};
 ghost use lib.ListN.{length};
 ghost use Rattle.columns.specs.Number.{digits};
-ghost use Rattle.columns.specs.Writing.{front, signed, written};
+ghost use Rattle.columns.specs.Writing.{front, sign-width, signed, written};
 use crate::refusal::WriteRefusal;
 
 // Writes `n` right-justified into the first `width` bytes.
@@ -36,7 +35,7 @@ fn write_number(
         return Err(WriteRefusal::Narrow);
     }
     let digits = digit_count(magnitude);
-    if width < digits || (negative && width == digits) {
+    if width < digits + sign_width(negative) {
         return Err(WriteRefusal::Range);
     }
     let start = width - digits;
@@ -45,9 +44,16 @@ fn write_number(
     Ok(())
 }
 
+fn sign_width(negative: bool) -> usize
+    ensures { λ r. ⌜ r ≡ sign-width negative ⌝ }
+{
+    if negative { 1 } else { 0 }
+}
+
 // How many digits the number has.
 fn digit_count(n: u64) -> usize
-    ensures { λ r. ⌜ r ≡ length (digits n) ⌝ }
+    ensures value { λ r. ⌜ r ≡ length (digits n) ⌝ }
+    ensures bound { λ r. ⌜ r ≤ 20 ⌝ }
 {
     let mut count = 1;
     let mut rest = n / 10;
