@@ -4,6 +4,7 @@ use mathlib.Core.Bool.{true, false, cond, _&&_}
 use mathlib.Core.List.{List, [], _∷_, _++_, map}
 use Prim.Native.Nat.{ℕ, zero, suc, _+_, _-_, _^_, _<_, _≤_}
 use native.Mathlib.Omega.{arith}
+use native.Mathlib.Nat.{one-le-pow, pow-le-pow-right}
 use lib.IntN.{ℤ, pos, negsuc, negℤ, natAbs}
 use lib.Dec.{leb}
 use lib.Signed.{leZ, _≤ℤ_, _<ℤ_}
@@ -12,12 +13,12 @@ use Rattle.std.proofs.shelf.Signed.{ints}
 use Rattle.std.specs.shelf.Digits.{digitsOf, number as number-in}
 use Rattle.std.specs.shelf.Lists.{All}
 use Rattle.std.specs.shelf.Text.{sameBytes}
-use Rattle.std.proofs.shelf.Digits.{number-digitsOf, length-digitsOf-le, under-digitsOf}
+use Rattle.std.proofs.shelf.Digits.{number-digitsOf, number-lt, length-digitsOf-le, under-digitsOf}
 use Rattle.std.proofs.shelf.Elements.{all-append, all-map, all-weaker}
 use Rattle.std.proofs.shelf.Equals.{sameBytes-decides}
-use Rattle.std.proofs.shelf.Lists.{length-append, length-map, length-replicate}
+use Rattle.std.proofs.shelf.Lists.{append-nil, drop-all, length-append, length-map, length-replicate}
 use mathlib.Core.Logic.{inl, inr}
-use Rattle.std.proofs.shelf.Tests.{cases-bool, cond-true, cond-false, and-from, and-parts, le-leb, leb-true}
+use Rattle.std.proofs.shelf.Tests.{cases-bool, cases-lt, lt-ltb, le-ltb, cond-true, cond-false, and-from, and-parts, le-leb, leb-true}
 use Rattle.std.specs.declared.option.Option.{Option}
 use Rattle.std.specs.declared.option.Option.the-variants.{Some, None}
 use Rattle.columns.specs.Number.{digits, text, field, worth, number, Writes}
@@ -26,6 +27,9 @@ use Rattle.std.specs.declared.result.Result.the-variants.{Ok, Err}
 use Rattle.columns.specs.Reading.{unsigned-of, unsigned-reading, signed-of, signed-reading}
 use Rattle.columns.specs.declared.refusal.ReadRefusal.{ReadRefusal}
 use Rattle.columns.specs.declared.refusal.ReadRefusal.the-variants.{Range}
+use Rattle.columns.specs.Writing.{put, written}
+use Rattle.columns.specs.declared.refusal.WriteRefusal.{WriteRefusal}
+use Rattle.columns.specs.declared.refusal.WriteRefusal.the-variants as refusing
 use Rattle.columns.proofs.Scan.{blanks, scan, scan-field}
 use Rattle.columns.proofs.Texts.{high, digits-high}
 
@@ -181,6 +185,13 @@ length-digits k (suc n) p h =
     let e : length (digits (suc n)) ≡ length (digitsOf 10 (suc n)) = ap length (digits-high (suc n) (omega arith)) ∙ length-map (digitsOf 10 (suc n)) (λ d. 48 + d) in
     omega (arith, length-digitsOf-le 10 k (suc n) (omega arith) h)
 
+digits-below : (k n : ℕ) → length (digits n) ≤ k → n < 10 ^ k
+digits-below k zero h = one-le-pow k 10 (omega arith)
+digits-below k (suc n) h =
+    let e : length (digits (suc n)) ≡ length (digitsOf 10 (suc n)) = ap length (digits-high (suc n) (omega arith)) ∙ length-map (digitsOf 10 (suc n)) (λ d. 48 + d) in
+    let p : 10 ^ length (digitsOf 10 (suc n)) ≤ 10 ^ k = pow-le-pow-right {n = 10} (omega arith) (omega arith) in
+    omega (arith, number-lt 10 (digitsOf 10 (suc n)) (under-digitsOf 10 (suc n) (omega arith)), number-digitsOf 10 (suc n) (omega arith))
+
 pub length-text : (k n : ℕ) → 0 < k → n < 10 ^ k → length (text (pos n)) ≤ k
 unfolding text
 length-text k n p h = length-digits k n p h
@@ -189,6 +200,16 @@ length-text k n p h = length-digits k n p h
 pub length-text-below : (k n : ℕ) → 0 < k → suc n < 10 ^ k → length (text (negsuc n)) ≤ suc k
 unfolding text
 length-text-below k n p h = omega (arith, length-digits k (suc n) p h)
+
+-- a number whose text fits is below the power
+
+pub text-below : (k n : ℕ) → length (text (pos n)) ≤ k → n < 10 ^ k
+unfolding text
+text-below k n h = digits-below k n h
+
+pub text-above : (k n : ℕ) → length (text (negsuc n)) ≤ suc k → suc n < 10 ^ k
+unfolding text
+text-above k n h = digits-below k (suc n) (omega arith)
 
 -- a field is read as its number, and as no other
 
@@ -236,3 +257,31 @@ signed-ok least most z (Some y) e =
 pub signed-only : (least most : ℤ) (cs : List ℕ) (z : ℤ) → signed-reading least most cs ≡ Ok z → (cs ≡ field (length cs) z) × (least ≤ℤ z) × (z ≤ℤ most)
 unfolding signed-reading
 signed-only least most cs z e = let h = signed-ok least most z (number cs) e in (number-writes cs z (h .0), h .1, h .2)
+
+-- what a writer answers
+
+pub written-fits : (w : ℕ) (z : ℤ) (buffer : List ℕ) → w ≤ length buffer → length (text z) ≤ w → written w z buffer ≡ (Ok tt, put (field w z) buffer)
+unfolding written
+written-fits w z buffer room fits = cond-false _ _ _ (le-ltb (length buffer) w room) ∙ cond-false _ _ _ (le-ltb w (length (text z)) fits)
+
+pub written-past : (w : ℕ) (z : ℤ) (buffer : List ℕ) → w ≤ length buffer → w < length (text z) → written w z buffer ≡ (Err refusing.Range, buffer)
+unfolding written
+written-past w z buffer room past = cond-false _ _ _ (le-ltb (length buffer) w room) ∙ cond-true _ _ _ (lt-ltb w (length (text z)) past)
+
+-- and in columns that are just as wide
+
+pub written-ok : (w : ℕ) (z : ℤ) (part last : List ℕ) (r : Result (Unit {0}) WriteRefusal) → length part ≡ w → (r, last) ≡ written w z part → r ≡ Ok tt → (last ≡ field w z) × (length (text z) ≤ w)
+written-ok w z part last r n e f =
+    elim (cases-lt w (length (text z))) [
+      | inl past ↦ let g : r ≡ Err refusing.Range = ap (λ p. p .0) (e ∙ written-past w z part (omega arith) past) in clash (cc)
+      | inr fits ↦
+          let g : last ≡ put (field w z) part = ap (λ p. p .1) (e ∙ written-fits w z part (omega arith) fits) in
+          (g ∙ ap (λ l. field w z ++ l) (drop-all (length (field w z)) part (omega (arith, length-field w z fits))) ∙ append-nil (field w z), fits)
+    ]
+
+pub written-err : (w : ℕ) (z : ℤ) (part last : List ℕ) (r : Result (Unit {0}) WriteRefusal) (why : WriteRefusal) → length part ≡ w → (r, last) ≡ written w z part → r ≡ Err why → (why ≡ refusing.Range) × (w < length (text z))
+written-err w z part last r why n e f =
+    elim (cases-lt w (length (text z))) [
+      | inl past ↦ let g : r ≡ Err refusing.Range = ap (λ p. p .0) (e ∙ written-past w z part (omega arith) past) in (cc, past)
+      | inr fits ↦ let g : r ≡ Ok tt = ap (λ p. p .0) (e ∙ written-fits w z part (omega arith) fits) in clash (cc)
+    ]

@@ -8,12 +8,13 @@ use native.Mathlib.Omega.{arith}
 use lib.Dec.{eqb, leb, ltb}
 use lib.IntN.{ℤ, pos, negsuc}
 use lib.ListN.{length, getD, take}
-use lib.Signed.{leZ, mag}
+use lib.Signed.{leZ, mag, _≤ℤ_}
 use Rattle.std.proofs.shelf.Lists.{take-more, take-all}
 use Rattle.std.proofs.shelf.Signed.{toZ-ofZ}
 use Rattle.std.proofs.shelf.Tests.{cases-lt, cond-both, cond-true, cond-false, and-cases, and-from, and-parts, leb-true, leb-false, le-leb, ne-eqb, and-right, and-left, lt-leb, lt-ltb, le-ltb}
 use Rattle.std.proofs.shelf.Ways.{tells}
 use Rattle.std.specs.Options.{mapped}
+use Rattle.std.specs.Vec.{made}
 use Rattle.std.specs.declared.option.Option.{Option}
 use Rattle.std.specs.declared.option.Option.the-variants.{Some, None}
 use Rattle.std.specs.declared.result.Result.{Result}
@@ -235,3 +236,13 @@ signed-relates least most cs r e = subst (ReadsSigned least most cs) (sym e) (si
 
 pub signed-alone : (least most : ℤ) (cs : List ℕ) (r : Result ℤ ReadRefusal) → r ≡ signed-of least most (number cs) → (s : Result ℤ ReadRefusal) → ReadsSigned least most cs s → s ≡ r
 signed-alone least most cs r e s h = signed-once least most cs s h ∙ sym e
+
+pub unsigned-bound : (least most : ℕ) (cs : List ℕ) (r : Result ℕ ReadRefusal) → ReadsUnsigned least most cs r → made r (λ n. (least ≤ n) × (n ≤ most))
+unfolding ReadsUnsigned
+unsigned-bound least most cs (Ok n) h = (h .1, h .2)
+unsigned-bound least most cs (Err e) h = tt
+
+pub signed-bound : (least most : ℤ) (cs : List ℕ) (r : Result ℤ ReadRefusal) → ReadsSigned least most cs r → made r (λ z. (least ≤ℤ z) × (z ≤ℤ most))
+unfolding ReadsSigned
+signed-bound least most cs (Ok z) h = (h .1, h .2)
+signed-bound least most cs (Err e) h = tt

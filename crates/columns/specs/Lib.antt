@@ -1,4 +1,5 @@
 pub mod Refusals
+pub mod Faults
 pub mod Number
 pub mod Reading
 pub mod Writing

@@ -1,4 +1,6 @@
 // A field that is refused.
+ghost use mathlib.Core.Path.{_≡_};
+ghost use Rattle.columns.specs.Faults.{at-column};
 use crate::refusal::ReadRefusal;
 use crate::refusal::ReadRefusalDebug;
 use crate::refusal::ReadRefusalPartialEq;
@@ -8,4 +10,14 @@ use crate::refusal::ReadRefusalPartialEq;
 pub struct ColumnFault {
     pub column: usize,
     pub refusal: ReadRefusal,
+}
+
+// Adds the field's first column on the way up.
+pub fn at_column<T>(column: usize, read: Result<T, ReadRefusal>) -> Result<T, ColumnFault>
+    ensures { λ r. ⌜ r ≡ at-column column read ⌝ }
+{
+    match read {
+        Ok(x) => Ok(x),
+        Err(refusal) => Err(ColumnFault { column, refusal }),
+    }
 }

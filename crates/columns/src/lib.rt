@@ -8,6 +8,7 @@ mod writing;
 pub use fault::ColumnFault;
 pub use fault::ColumnFaultDebug;
 pub use fault::ColumnFaultPartialEq;
+pub use fault::at_column;
 pub use reading::read_signed;
 pub use reading::read_unsigned;
 pub use refusal::ReadRefusal;

@@ -1,7 +1,9 @@
 // Reads a number from the columns of a field.
 ghost use mathlib.Core.Path.{_≡_};
-ghost use Prim.Native.Nat.{ℕ};
+ghost use Prim.Native.Nat.{ℕ, _≤_};
 ghost use lib.IntN.{ℤ};
+ghost use lib.Signed.{_≤ℤ_};
+ghost use Rattle.std.specs.Vec.{made};
 ghost use Rattle.std.specs.declared.result.Result.{Result};
 ghost use Rattle.columns.specs.Reading.{ReadsSigned, ReadsUnsigned, signed-reading, unsigned-reading};
 ghost use Rattle.columns.specs.Scanning.{signed-value, signed-within, unsigned-found};
@@ -15,6 +17,7 @@ pub fn read_unsigned(columns: &[u8], least: u64, most: u64) -> Result<u64, ReadR
     ensures value { λ r. ⌜ r ≡ unsigned-reading least most (now (columns .entry)) ⌝ }
     ensures relation { λ r. ⌜ ReadsUnsigned least most (now (columns .entry)) r ⌝ }
     ensures only { λ r. ⌜ ((s : Result ℕ ReadRefusal) → ReadsUnsigned least most (now (columns .entry)) s → s ≡ r) ⌝ }
+    ensures bound { λ r. ⌜ made r (λ n. (least ≤ n) × (n ≤ most)) ⌝ }
 {
     match scanned(columns) {
         Some(found) => unsigned_within(found, least, most),
@@ -27,6 +30,7 @@ pub fn read_signed(columns: &[u8], least: i64, most: i64) -> Result<i64, ReadRef
     ensures value { λ r. ⌜ r ≡ signed-reading least most (now (columns .entry)) ⌝ }
     ensures relation { λ r. ⌜ ReadsSigned least most (now (columns .entry)) r ⌝ }
     ensures only { λ r. ⌜ ((s : Result ℤ ReadRefusal) → ReadsSigned least most (now (columns .entry)) s → s ≡ r) ⌝ }
+    ensures bound { λ r. ⌜ made r (λ z. (least ≤ℤ z) × (z ≤ℤ most)) ⌝ }
 {
     match scanned(columns) {
         Some(found) => signed_within(found, least, most),
