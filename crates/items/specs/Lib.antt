@@ -1,0 +1,3 @@
+pub mod ItemText
+pub mod Patch
+pub mod Job
