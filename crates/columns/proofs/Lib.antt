@@ -4,3 +4,4 @@ pub mod Shapes
 pub mod Laws
 pub mod Readers
 pub mod Writers
+pub mod Rows

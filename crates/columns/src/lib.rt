@@ -2,6 +2,7 @@
 mod fault;
 mod reading;
 mod refusal;
+mod row;
 mod scanning;
 mod writing;
 
@@ -17,5 +18,7 @@ pub use refusal::ReadRefusalPartialEq;
 pub use refusal::WriteRefusal;
 pub use refusal::WriteRefusalDebug;
 pub use refusal::WriteRefusalPartialEq;
+pub use row::Field;
+pub use row::write_row;
 pub use writing::write_signed;
 pub use writing::write_unsigned;

@@ -51,7 +51,7 @@ fn sign_width(negative: bool) -> usize
 }
 
 // How many digits the number has.
-fn digit_count(n: u64) -> usize
+pub(crate) fn digit_count(n: u64) -> usize
     ensures value { λ r. ⌜ r ≡ length (digits n) ⌝ }
     ensures bound { λ r. ⌜ r ≤ 20 ⌝ }
 {

@@ -1,0 +1,59 @@
+-- One field more of a row.
+use mathlib.Core.Path.{_≡_, refl, sym, ap, subst, _∙_}
+use mathlib.Core.Bool.{Bool, true, false, cond, _&&_}
+use mathlib.Core.List.{List, [], _∷_, _++_, append-assoc, append-nil}
+use Prim.Native.Nat.{ℕ, _+_, _-_, _<_, _≤_}
+use native.Mathlib.Omega.{arith}
+use borrow.Rule.Slice.PartMut.{putMid}
+use lib.Dec.{leb, ltb}
+use lib.IntN.{pos}
+use lib.ListN.{length, getD, take, drop}
+use Rattle.std.specs.declared.result.Result.{Result}
+use Rattle.std.specs.declared.result.Result.the-variants.{Ok}
+use Rattle.std.proofs.shelf.Lists.{length-append, length-drop, length-take-le, take-all, drop-all, at-drop-more}
+use Rattle.std.proofs.shelf.Parts.{take-putMid}
+use Rattle.std.proofs.shelf.Tests.{cond-false, and-parts, le-ltb, le-leb, lt-leb, leb-true}
+use Rattle.columns.specs.declared.refusal.WriteRefusal.{WriteRefusal}
+use Rattle.columns.specs.declared.row.Field.{Field}
+use Rattle.columns.specs.Number.{digits, text, field}
+use Rattle.columns.specs.Row.{row-width, row-text, row-fits}
+use Rattle.columns.specs.Writing.{put, written}
+use Rattle.columns.proofs.Laws.{length-field}
+
+abbrev pub no-field : Field
+no-field = record { width = 0; number = 0 }
+
+module _ (fs : List Field) (i : ℕ) (h : i < length fs) where
+  pub width-more : row-width (drop i fs) ≡ getD fs i no-field .width + row-width (drop (i + 1) fs)
+  width-more = at-drop-more row-width fs i no-field h
+
+  pub text-more : row-text (drop i fs) ≡ field (getD fs i no-field .width) (pos (getD fs i no-field .number)) ++ row-text (drop (i + 1) fs)
+  text-more = at-drop-more row-text fs i no-field h
+
+  pub fits-more : row-fits (drop i fs) ≡ (leb (length (text (pos (getD fs i no-field .number)))) (getD fs i no-field .width) && row-fits (drop (i + 1) fs))
+  fits-more = at-drop-more row-fits fs i no-field h
+
+pub plain-text : (n : ℕ) → text (pos n) ≡ digits n
+unfolding text
+plain-text n = refl
+
+-- a number that fits, written into columns that it fills
+pub fills : (w n : ℕ) (columns : List ℕ) (r : Result (Unit {0}) WriteRefusal) (after : List ℕ) → length columns ≡ w → leb (length (text (pos n))) w ≡ true
+    → _≡_ {A = Result (Unit {0}) WriteRefusal × List ℕ} (r, after) (written w (pos n) columns) → after ≡ field w (pos n)
+unfolding written
+fills w n columns r after len fits e =
+    let room : length (text (pos n)) ≤ w = leb-true (length (text (pos n))) w fits in
+    let done = cond-false (ltb (length columns) w) _ _ (le-ltb (length columns) w (omega arith)) ∙ cond-false (ltb w (length (text (pos n)))) _ _ (le-ltb w (length (text (pos n))) room) in
+    ap (λ x. x .1) (e ∙ done)
+    ∙ (ap (λ x. field w (pos n) ++ x) (drop-all (length (field w (pos n))) columns (omega (arith, length-field w (pos n) room))) ∙ append-nil (field w (pos n)))
+
+-- the part before `at` and the fields to come make the whole row
+pub row-turn : (fs : List Field) (i : ℕ) (h : i < length fs) (at k : ℕ) (xs ys all : List ℕ) → at ≤ length xs → length ys ≡ getD fs i no-field .width
+    → ys ≡ field (getD fs i no-field .width) (pos (getD fs i no-field .number)) → take at xs ++ row-text (drop i fs) ≡ all
+    → take (at + getD fs i no-field .width) (putMid at k xs ys) ++ row-text (drop (i + 1) fs) ≡ all
+row-turn fs i h at k xs ys all room len is e =
+    ap (λ x. x ++ row-text (drop (i + 1) fs)) (take-putMid at k xs ys (at + getD fs i no-field .width) (omega arith) room)
+    ∙ append-assoc (take at xs) ys (row-text (drop (i + 1) fs))
+    ∙ ap (λ x. take at xs ++ (x ++ row-text (drop (i + 1) fs))) is
+    ∙ ap (λ x. take at xs ++ x) (sym (text-more fs i h))
+    ∙ e
