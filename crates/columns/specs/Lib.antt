@@ -4,3 +4,4 @@ pub mod Number
 pub mod Reading
 pub mod Writing
 pub mod Scanning
+pub mod Signs
