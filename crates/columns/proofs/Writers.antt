@@ -9,11 +9,13 @@ use lib.IntN.{ℤ}
 use lib.ListN.{length, drop, set, replicate}
 use Rattle.std.specs.shelf.Digits.{digitsOf}
 use Rattle.std.proofs.shelf.Lists.{drop-set, drop-all, drop-at, drop-drop, take-at, length-append, length-drop, length-map, length-replicate, nil-from-length, replicate-more, set-at}
-use Rattle.std.proofs.shelf.Tests.{cond-true, cond-false, lt-ltb, le-ltb}
+use Rattle.std.proofs.shelf.Tests.{cond-true, lt-ltb}
 use Rattle.std.specs.declared.result.Result.the-variants.{Ok, Err}
 use Rattle.columns.specs.Number.{digits, text, field}
-use Rattle.columns.specs.Writing.{front, put, sign-width, signed, written}
+use Rattle.columns.specs.Signs.{front, sign-width, signed}
+use Rattle.columns.specs.Writing.{put, written}
 use Rattle.columns.specs.declared.refusal.WriteRefusal.the-variants.{Narrow, Range}
+use Rattle.columns.proofs.Laws.{written-fits, written-past}
 use Rattle.columns.proofs.Texts.{high, high-step, digits-last}
 
 pub length-high : (n : ℕ) → length (high n) ≡ length (digitsOf 10 n)
@@ -84,9 +86,7 @@ unfolding written
 written-narrow w z buffer h = sym (cond-true _ _ _ (lt-ltb (length buffer) w h))
 
 pub written-wide : (w : ℕ) (b : Bool) (n : ℕ) (buffer : List ℕ) → (b ≡ true → 0 < n) → w ≤ length buffer → w < length (digits n) + sign-width b → (Err Range, buffer) ≡ written w (signed b n) buffer
-unfolding written
-written-wide w b n buffer h room wide =
-    sym (cond-false _ _ _ (le-ltb (length buffer) w room) ∙ cond-true _ _ _ (lt-ltb w (length (text (signed b n))) (omega (arith, length-text-signed b n h))))
+written-wide w b n buffer h room wide = sym (written-past w (signed b n) buffer room (omega (arith, length-text-signed b n h)))
 
 two-parts : (a k : ℕ) (buffer x y : List ℕ) → length x ≡ a → length y ≡ k → putMid a k (putMid 0 (a - 0) buffer x) y ≡ put (x ++ y) buffer
 two-parts a k buffer x y ex ey =
@@ -99,11 +99,13 @@ two-parts a k buffer x y ex ey =
     ∙ sym (append-assoc x y (drop (a + k) buffer))
     ∙ ap (λ m. (x ++ y) ++ drop m buffer) (sym n)
 
+joined-parts : (w a k : ℕ) (z : ℤ) (buffer x y : List ℕ) → length x ≡ a → length y ≡ k → x ++ y ≡ field w z → w ≤ length buffer → length (text z) ≤ w → (Ok tt, putMid a k (putMid 0 (a - 0) buffer x) y) ≡ written w z buffer
+joined-parts w a k z buffer x y ex ey f room fits =
+    let last : putMid a k (putMid 0 (a - 0) buffer x) y ≡ put (field w z) buffer = two-parts a k buffer x y ex ey ∙ ap (λ l. put l buffer) f in
+    ap (λ l. (Ok tt, l)) last ∙ sym (written-fits w z buffer room fits)
+
 pub written-parts : (w : ℕ) (b : Bool) (n a k : ℕ) (buffer x y : List ℕ) → (b ≡ true → 0 < n) → w ≤ length buffer → length (digits n) + sign-width b ≤ w → a ≡ w - length (digits n) → k ≡ w - a → x ≡ front a b → y ≡ digits n → (Ok tt, putMid a k (putMid 0 (a - 0) buffer x) y) ≡ written w (signed b n) buffer
-unfolding written
 written-parts w b n a k buffer x y h room fits ea ek ex ey =
-    let lx : length x ≡ a = ap length ex ∙ length-front a b (omega arith) in
-    let ly : length y ≡ k = ap length ey ∙ omega arith in
-    let f : x ++ y ≡ field w (signed b n) = ap (λ l. l ++ y) ex ∙ ap (λ l. front a b ++ l) ey ∙ ap (λ m. front m b ++ digits n) ea ∙ sym (field-parts w b n h fits) in
-    ap (λ l. (Ok tt, l)) (two-parts a k buffer x y lx ly ∙ ap (λ l. put l buffer) f)
-    ∙ sym (cond-false _ _ _ (le-ltb (length buffer) w room) ∙ cond-false _ _ _ (le-ltb w (length (text (signed b n))) (omega (arith, length-text-signed b n h))))
+    joined-parts w a k (signed b n) buffer x y (ap length ex ∙ length-front a b (omega arith)) (ap length ey ∙ omega arith)
+    (ap (λ l. l ++ y) ex ∙ ap (λ l. front a b ++ l) ey ∙ ap (λ m. front m b ++ digits n) ea ∙ sym (field-parts w b n h fits))
+    room (omega (arith, length-text-signed b n h))

@@ -5,3 +5,4 @@ pub mod Reading
 pub mod Writing
 pub mod Scanning
 pub mod Row
+pub mod Signs

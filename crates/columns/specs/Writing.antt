@@ -1,10 +1,10 @@
 -- What a writer answers and leaves in the buffer.
-use mathlib.Core.List.{List, [], _∷_, _++_}
-use Prim.Native.Nat.{ℕ, _-_}
+use mathlib.Core.List.{List, _++_}
+use Prim.Native.Nat.{ℕ}
 use lib.Dec.{ltb}
-use lib.IntN.{ℤ, pos, negsuc}
-use lib.ListN.{length, drop, replicate}
-use mathlib.Core.Bool.{Bool, true, false, cond}
+use lib.IntN.{ℤ}
+use lib.ListN.{length, drop}
+use mathlib.Core.Bool.{cond}
 use Rattle.std.specs.declared.result.Result.{Result}
 use Rattle.std.specs.declared.result.Result.the-variants.{Ok, Err}
 use Rattle.columns.specs.declared.refusal.WriteRefusal.{WriteRefusal}
@@ -20,17 +20,3 @@ unfoldable pub written : ℕ → ℤ → List ℕ → Result (Unit {0}) WriteRef
 written width z buffer =
     cond (ltb (length buffer) width) (Err Narrow, buffer)
     (cond (ltb width (length (text z))) (Err Range, buffer) (Ok tt, put (field width z) buffer))
-
--- the number of a sign and a magnitude
-abbrev pub signed : Bool → ℕ → ℤ
-signed true n = negsuc (n - 1)
-signed false n = pos n
-
--- what stands before the digits in `k` columns
-abbrev pub front : ℕ → Bool → List ℕ
-front k true = replicate (k - 1) 32 ++ (45 ∷ [])
-front k false = replicate k 32
-
-abbrev pub sign-width : Bool → ℕ
-sign-width true = 1
-sign-width false = 0

@@ -5,7 +5,8 @@ ghost use Prim.Native.Nat.{_<_, _≤_};
 ghost use lib.IntN.{pos};
 ghost use lib.ListN.{length};
 ghost use Rattle.columns.specs.Number.{digits};
-ghost use Rattle.columns.specs.Writing.{front, sign-width, signed, written};
+ghost use Rattle.columns.specs.Signs.{front, sign-width, signed};
+ghost use Rattle.columns.specs.Writing.{written};
 use crate::refusal::WriteRefusal;
 
 // Writes `n` right-justified into the first `width` bytes.

@@ -1,7 +1,7 @@
 -- A job in fifteen columns: 1 to 6 its word, 7 to 15 its number, or blanks where it has none.
 use mathlib.Core.Bool.{cond}
 use mathlib.Core.List.{List, _++_}
-use Prim.Native.Nat.{ℕ}
+use Prim.Native.Nat.{ℕ, _+_}
 use lib.Chars.{codes}
 use lib.Dec.{leb}
 use lib.IntN.{pos}
@@ -18,6 +18,16 @@ use Rattle.columns.specs.declared.fault.ColumnFault.{ColumnFault}
 use Rattle.columns.specs.declared.refusal.ReadRefusal.the-variants.{Form}
 use Rattle.items.specs.declared.job.Job.{Job}
 use Rattle.items.specs.declared.job.Job.the-variants.{Block, Sweep, Flush, Stop}
+
+abbrev pub word-width : ℕ
+word-width = 6
+
+abbrev pub number-width : ℕ
+number-width = 9
+
+-- the first column behind the word
+abbrev pub number-column : ℕ
+number-column = word-width + 1
 
 -- from 0
 abbrev pub number-most : ℕ
@@ -37,10 +47,10 @@ abbrev pub stop-word : List ℕ
 stop-word = codes "  stop"
 
 abbrev pub no-number : List ℕ
-no-number = replicate 9 32
+no-number = replicate number-width 32
 
 abbrev pub numbered-text : List ℕ → ℕ → Option (List ℕ)
-numbered-text word n = cond (leb n number-most) (Some (word ++ field 9 (pos n))) None
+numbered-text word n = cond (leb n number-most) (Some (word ++ field number-width (pos n))) None
 
 -- what a job writes, where its number is in range
 unfoldable pub job-text : Job → Option (List ℕ)
@@ -54,10 +64,10 @@ numbered job (Ok n) = Ok (job n)
 numbered job (Err e) = Err e
 
 abbrev pub number-reading : List ℕ → Result ℕ ColumnFault
-number-reading cs = at-column 7 (unsigned-reading 0 number-most cs)
+number-reading cs = at-column number-column (unsigned-reading 0 number-most cs)
 
 abbrev pub bare : Job → List ℕ → Result Job ColumnFault
-bare job cs = cond (sameBytes cs no-number) (Ok job) (Err (record { column = 7; refusal = Form }))
+bare job cs = cond (sameBytes cs no-number) (Ok job) (Err (record { column = number-column; refusal = Form }))
 
 -- the word first, then what stands behind it
 abbrev pub job-of : List ℕ → List ℕ → Result Job ColumnFault
@@ -68,4 +78,4 @@ job-of word rest =
     (cond (sameBytes word stop-word) (bare Stop rest) (Err (record { column = 1; refusal = Form })))))
 
 unfoldable pub job-reading : List ℕ → Result Job ColumnFault
-job-reading cs = job-of (take 6 cs) (take 9 (drop 6 cs))
+job-reading cs = job-of (take word-width cs) (take number-width (drop word-width cs))

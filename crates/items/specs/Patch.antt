@@ -1,7 +1,7 @@
 -- A patch in fifteen columns: 1 to 8 its face, 9 to 12 its zone, 13 to 15 its level.
 use mathlib.Core.Bool.{Bool, cond, _&&_}
 use mathlib.Core.List.{List, _++_}
-use Prim.Native.Nat.{ℕ}
+use Prim.Native.Nat.{ℕ, _+_}
 use lib.Dec.{leb}
 use lib.IntN.{ℤ, pos, negsuc}
 use lib.ListN.{take, drop}
@@ -15,6 +15,22 @@ use Rattle.columns.specs.Number.{field}
 use Rattle.columns.specs.Reading.{unsigned-reading, signed-reading}
 use Rattle.columns.specs.declared.fault.ColumnFault.{ColumnFault}
 use Rattle.items.specs.declared.patch.Patch.{Patch}
+
+abbrev pub face-width : ℕ
+face-width = 8
+
+abbrev pub zone-width : ℕ
+zone-width = 4
+
+abbrev pub level-width : ℕ
+level-width = 3
+
+-- how many columns stand before the field
+abbrev pub zone-start : ℕ
+zone-start = face-width
+
+abbrev pub level-start : ℕ
+level-start = face-width + zone-width
 
 -- from 0
 abbrev pub face-most : ℕ
@@ -34,7 +50,7 @@ abbrev pub patch-fits : Patch → Bool
 patch-fits p = leb (p .face) face-most && (leb (p .zone) zone-most && (leZ level-least (p .level) && leZ (p .level) level-most))
 
 abbrev pub patch-columns : Patch → List ℕ
-patch-columns p = field 8 (pos (p .face)) ++ (field 4 (pos (p .zone)) ++ field 3 (p .level))
+patch-columns p = field face-width (pos (p .face)) ++ (field zone-width (pos (p .zone)) ++ field level-width (p .level))
 
 -- what a patch writes, where its numbers are in range
 unfoldable pub patch-text : Patch → Option (List ℕ)
@@ -49,6 +65,6 @@ patch-of (Ok f) (Ok z) (Ok l) = Ok (record { face = f; zone = z; level = l })
 
 unfoldable pub patch-reading : List ℕ → Result Patch ColumnFault
 patch-reading cs =
-    patch-of (at-column 1 (unsigned-reading 0 face-most (take 8 cs)))
-    (at-column 9 (unsigned-reading 0 zone-most (take 4 (drop 8 cs))))
-    (at-column 13 (signed-reading level-least level-most (take 3 (drop 12 cs))))
+    patch-of (at-column 1 (unsigned-reading 0 face-most (take face-width cs)))
+    (at-column (zone-start + 1) (unsigned-reading 0 zone-most (take zone-width (drop zone-start cs))))
+    (at-column (level-start + 1) (signed-reading level-least level-most (take level-width (drop level-start cs))))

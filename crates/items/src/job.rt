@@ -20,6 +20,13 @@ pub enum Job {
     Stop,
 }
 
+// The word, and behind it the number.
+const WORD_WIDTH: usize = 6;
+
+const NUMBER_COLUMN: usize = WORD_WIDTH + 1;
+
+const NUMBER_WIDTH: usize = 9;
+
 const NUMBER_MOST: u32 = 999_999_999;
 
 pub impl ItemKind for Job as JobKind {
@@ -28,7 +35,7 @@ pub impl ItemKind for Job as JobKind {
     ghost reading = { job-reading };
 
     fn read(columns: &[u8; ITEM_WIDTH]) -> Result<Job, ColumnFault> {
-        job_of(&columns[0..6], &columns[6..15])
+        job_of(&columns[0..WORD_WIDTH], &columns[WORD_WIDTH..ITEM_WIDTH])
     }
 
     fn columns(self) -> Result<[u8; ITEM_WIDTH], WriteRefusal> {
@@ -46,9 +53,9 @@ fn job_of(word: &[u8], rest: &[u8]) -> Result<Job, ColumnFault>
     ensures { λ r. ⌜ r ≡ job-of (now (word .entry)) (now (rest .entry)) ⌝ }
 {
     if same(word, b" block") {
-        Ok(Job::Block(read_u32(7, rest, NUMBER_MOST)?))
+        Ok(Job::Block(read_u32(NUMBER_COLUMN, rest, NUMBER_MOST)?))
     } else if same(word, b" sweep") {
-        Ok(Job::Sweep(read_u32(7, rest, NUMBER_MOST)?))
+        Ok(Job::Sweep(read_u32(NUMBER_COLUMN, rest, NUMBER_MOST)?))
     } else if same(word, b" flush") {
         bare(Job::Flush, rest)
     } else if same(word, b"  stop") {
@@ -69,7 +76,7 @@ fn bare(job: Job, rest: &[u8]) -> Result<Job, ColumnFault>
         return Ok(job);
     }
     Err(ColumnFault {
-        column: 7,
+        column: NUMBER_COLUMN,
         refusal: ReadRefusal::Form,
     })
 }
@@ -81,11 +88,15 @@ fn same(a: &[u8], b: &[u8]) -> bool
 }
 
 // A word with its number behind it.
-fn numbered(word: &[u8; 6], n: u32) -> Result<[u8; ITEM_WIDTH], WriteRefusal>
+fn numbered(word: &[u8; WORD_WIDTH], n: u32) -> Result<[u8; ITEM_WIDTH], WriteRefusal>
     ensures { λ r. ⌜ r ≡ okOr (numbered-text (now (word .entry)) n) Range ⌝ }
 {
     let mut columns = [b' '; ITEM_WIDTH];
-    columns[0..6].copy_from_slice(word);
-    write_unsigned(&mut columns[6..15], 9, u64::from(n))?;
+    columns[0..WORD_WIDTH].copy_from_slice(word);
+    write_unsigned(
+        &mut columns[WORD_WIDTH..ITEM_WIDTH],
+        NUMBER_WIDTH,
+        u64::from(n),
+    )?;
     Ok(columns)
 }

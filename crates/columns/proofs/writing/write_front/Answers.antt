@@ -2,7 +2,7 @@ use mathlib.Core.Path.{_≡_, sym, ap, _∙_}
 use Prim.Native.Nat.{_-_}
 use borrow.Author.Needs.{needs}
 use lib.ListN.{length, replicate, set}
-use Rattle.columns.specs.Writing.{front}
+use Rattle.columns.specs.Signs.{front}
 use Rattle.columns.proofs.Writers.{front-ended}
 use Rattle.columns.proofs.writing.write_front.Needs as need
 

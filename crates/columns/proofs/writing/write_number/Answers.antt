@@ -3,7 +3,7 @@ use native.Mathlib.Omega.{arith}
 use Prim.Native.Nat.{_-_}
 use lib.ListN.{length, take}
 use Rattle.std.proofs.shelf.Lists.{length-take-le}
-use Rattle.columns.specs.Writing.{front}
+use Rattle.columns.specs.Signs.{front}
 use Rattle.columns.proofs.Writers.{written-narrow, written-wide, written-parts}
 use Rattle.columns.proofs.writing.write_number.Needs as need
 
