@@ -1,0 +1,14 @@
+pub mod Lines
+pub mod FirstLine
+pub mod Cuts
+pub mod Places
+pub mod Whole
+pub mod FirstHeader
+pub mod Fields
+pub mod OrderText
+pub mod HeaderText
+pub mod PlayText
+pub mod NextOrder
+pub mod ItemKinds
+pub mod WholePlay
+pub mod ItemFaults
