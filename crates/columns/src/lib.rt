@@ -19,3 +19,6 @@ pub use refusal::WriteRefusalDebug;
 pub use refusal::WriteRefusalPartialEq;
 pub use writing::write_signed;
 pub use writing::write_unsigned;
+
+#[cfg(test)]
+mod tests;
