@@ -22,3 +22,6 @@ pub use row::Field;
 pub use row::write_row;
 pub use writing::write_signed;
 pub use writing::write_unsigned;
+
+#[cfg(test)]
+mod tests;

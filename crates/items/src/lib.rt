@@ -14,3 +14,6 @@ pub use patch::Patch;
 pub use patch::PatchDebug;
 pub use patch::PatchKind;
 pub use patch::PatchPartialEq;
+
+#[cfg(test)]
+mod tests;
