@@ -2,15 +2,15 @@
 use mathlib.Core.Path.{_≡_, refl, sym, ap, subst, _∙_}
 use mathlib.Core.Bool.{Bool, true, false, cond, _&&_}
 use mathlib.Core.List.{List, [], _∷_, _++_, append-assoc, append-nil}
-use Prim.Native.Nat.{ℕ, _+_, _-_, _<_, _≤_}
+use Prim.Native.Nat.{ℕ, suc, _+_, _-_, _<_, _≤_}
 use native.Mathlib.Omega.{arith}
 use borrow.Rule.Slice.PartMut.{putMid}
 use lib.Dec.{leb, ltb}
 use lib.IntN.{pos}
-use lib.ListN.{length, getD, take, drop}
+use lib.ListN.{length, getD, set, take, drop}
 use Rattle.std.specs.declared.result.Result.{Result}
 use Rattle.std.specs.declared.result.Result.the-variants.{Ok}
-use Rattle.std.proofs.shelf.Lists.{length-append, length-drop, length-take-le, take-all, drop-all, at-drop-more}
+use Rattle.std.proofs.shelf.Lists.{length-append, length-drop, length-take-le, drop-all, drop-more, set-at, at-drop-more}
 use Rattle.std.proofs.shelf.Parts.{take-putMid}
 use Rattle.std.proofs.shelf.Tests.{cond-false, and-parts, le-ltb, le-leb, lt-leb, leb-true}
 use Rattle.columns.specs.declared.refusal.WriteRefusal.{WriteRefusal}
@@ -57,3 +57,25 @@ row-turn fs i h at k xs ys all room len is e =
     ∙ ap (λ x. take at xs ++ (x ++ row-text (drop (i + 1) fs))) is
     ∙ ap (λ x. take at xs ++ x) (sym (text-more fs i h))
     ∙ e
+
+-- a mark in front of columns that were filled, and an LF behind them
+pub framed : (mark n k : ℕ) (ys buffer : List ℕ) → length ys ≡ n → k ≡ n → n + 2 ≤ length buffer
+    → set (putMid 1 k (set buffer 0 mark) ys) (n + 1) 10 ≡ (mark ∷ (ys ++ (10 ∷ []))) ++ drop (length (mark ∷ (ys ++ (10 ∷ [])))) buffer
+framed mark n k ys [] len e room = absurd (omega arith)
+framed mark n k ys (b ∷ bs) len e room =
+    let next : n + 1 ≡ suc n = omega arith in
+    let some : drop n bs ≡ getD bs n 0 ∷ drop (n + 1) bs = drop-more bs n 0 (omega arith) in
+    let long : length (ys ++ (10 ∷ [])) ≡ n + 1 = length-append ys (10 ∷ []) ∙ omega arith in
+    ap (λ m. set (mark ∷ (ys ++ drop m bs)) (n + 1) 10) e
+    ∙ ap (λ m. set (mark ∷ (ys ++ drop n bs)) m 10) next
+    ∙ ap (λ x. mark ∷ set (ys ++ x) n 10) some
+    ∙ ap (λ x. mark ∷ x) (set-at ys (getD bs n 0) (drop (n + 1) bs) 10 n len)
+    ∙ ap (λ x. mark ∷ x) (sym (append-assoc ys (10 ∷ []) (drop (n + 1) bs)))
+    ∙ ap (λ m. mark ∷ ((ys ++ (10 ∷ [])) ++ drop m bs)) (sym long)
+
+pub length-row : (fs : List Field) → row-fits fs ≡ true → length (row-text fs) ≡ row-width fs
+length-row [] e = refl
+length-row (f ∷ fs) e =
+    let p = and-parts (leb (length (text (pos (f .number)))) (f .width)) (row-fits fs) e in
+    length-append (field (f .width) (pos (f .number))) (row-text fs)
+    ∙ omega (arith, length-field (f .width) (pos (f .number)) (leb-true (length (text (pos (f .number)))) (f .width) (p .0)), length-row fs (p .1))

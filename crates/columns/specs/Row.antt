@@ -33,6 +33,14 @@ row-fits (f ∷ fs) = leb (length (text (pos (f .number)))) (f .width) && row-fi
 abbrev pub row-written : List Field → List ℕ → Result (Unit {0}) WriteRefusal × List ℕ
 row-written fs buffer = cond (ltb (length buffer) (row-width fs)) (Err Narrow, buffer) (cond (row-fits fs) (Ok tt, put (row-text fs) buffer) (Err Range, buffer))
 
+-- a mark in front and an LF (10) behind
+abbrev pub line-text : ℕ → List Field → List ℕ
+line-text mark fs = mark ∷ (row-text fs ++ (10 ∷ []))
+
+abbrev pub line-written : ℕ → List Field → List ℕ → Result (Unit {0}) WriteRefusal × List ℕ
+line-written mark fs buffer =
+    cond (ltb (length buffer) (row-width fs + 2)) (Err Narrow, buffer) (cond (row-fits fs) (Ok tt, put (line-text mark fs) buffer) (Err Range, buffer))
+
 -- where the columns end, if there is room for them
 abbrev pub RowEnd : ℕ → ℕ → Option ℕ → Type 0
 RowEnd width room (Some end) = (end ≡ width) × (width ≤ room)

@@ -19,6 +19,7 @@ pub use refusal::WriteRefusal;
 pub use refusal::WriteRefusalDebug;
 pub use refusal::WriteRefusalPartialEq;
 pub use row::Field;
+pub use row::write_line;
 pub use row::write_row;
 pub use writing::write_signed;
 pub use writing::write_unsigned;

@@ -3,7 +3,7 @@ ghost use mathlib.Core.Path.{_≡_};
 ghost use mathlib.Core.Bool.{true};
 ghost use lib.Dec.{leb};
 ghost use lib.ListN.{length};
-ghost use Rattle.columns.specs.Row.{RowEnd, row-fits, row-text, row-width, row-written};
+ghost use Rattle.columns.specs.Row.{RowEnd, line-written, row-fits, row-text, row-width, row-written};
 use crate::refusal::WriteRefusal;
 use crate::writing::digit_count;
 use crate::writing::write_unsigned;
@@ -26,6 +26,25 @@ pub fn write_row(buffer: &mut [u8], fields: &[Field]) -> Result<(), WriteRefusal
         return Err(WriteRefusal::Range);
     }
     fill_row(&mut buffer[0..end], fields);
+    Ok(())
+}
+
+// Writes a line: a mark, the numbers in their columns, and an LF.
+pub fn write_line(buffer: &mut [u8], mark: u8, fields: &[Field]) -> Result<(), WriteRefusal>
+    ensures { λ r. ⌜ (r, now (buffer .exit)) ≡ line-written mark (now (fields .entry)) (now (buffer .entry)) ⌝ }
+{
+    let Some(width) = row_end(fields, buffer.len()) else {
+        return Err(WriteRefusal::Narrow);
+    };
+    if buffer.len() - width < 2 {
+        return Err(WriteRefusal::Narrow);
+    }
+    if !all_fit(fields) {
+        return Err(WriteRefusal::Range);
+    }
+    buffer[0] = mark;
+    fill_row(&mut buffer[1..width + 1], fields);
+    buffer[width + 1] = b'\n';
     Ok(())
 }
 
