@@ -5,3 +5,4 @@ pub mod Orders
 pub mod Play
 pub mod Text
 pub mod Promise
+pub mod FaultLine
