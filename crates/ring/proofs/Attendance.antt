@@ -12,10 +12,12 @@ use Rattle.tickets.specs.declared.Ticket.{Ticket}
 use Rattle.tickets.specs.declared.WorkerNo.{WorkerNo}
 use Rattle.ring.specs.declared.table.Cell.{Cell}
 use Rattle.ring.specs.declared.table.Worker.{Worker}
+use Rattle.ring.specs.declared.table.Side.{Side}
+use Rattle.ring.specs.declared.table.Side.the-variants.{Neither, Enqueuing, Dequeuing}
 use Rattle.ring.specs.declared.table.Phase.{Phase}
 use Rattle.ring.specs.declared.table.Phase.the-variants.{Idle, Engine, Kind}
 use Rattle.ring.specs.Table.{Counters, Table, ticket, worker}
-use Rattle.ring.specs.Phases.{Side, kind-side, Outside, neither, enqueuing, dequeuing}
+use Rattle.ring.specs.Phases.{kind-side, Outside}
 use Rattle.ring.specs.Calls.{is-worker}
 use Rattle.ring.proofs.Equals.{clash, same-number}
 use Rattle.ring.proofs.Orderly.{Orderly, drawn, worker-range}
@@ -23,9 +25,9 @@ use Rattle.ring.proofs.Writes.{put, put-same, put-other, each-put}
 use Rattle.ring.proofs.Tickets.{Grows}
 
 abbrev pub on-side : Side → Ticket → Option Ticket
-on-side neither k = None
-on-side enqueuing k = None
-on-side dequeuing k = Some k
+on-side Neither k = None
+on-side Enqueuing k = None
+on-side Dequeuing k = Some k
 
 abbrev pub at-work-in : Phase → Ticket → Option Ticket
 at-work-in Idle k = None
@@ -38,15 +40,15 @@ outside-idle (Engine e) k h = refl
 outside-idle (Kind r) k h = absurd h
 
 -- at work in a phase is a dequeue in one of the kind's phases
-pub at-work-is : (p : Phase) (l k : Ticket) → at-work-in p l ≡ Some k → (drawn p ≡ dequeuing) × (l ≡ k)
+pub at-work-is : (p : Phase) (l k : Ticket) → at-work-in p l ≡ Some k → (drawn p ≡ Dequeuing) × (l ≡ k)
 at-work-is Idle l k e = clash (cc)
 at-work-is (Engine x) l k e = clash (cc)
 at-work-is (Kind r) l k e = go (kind-side r) e
   where
-    go : (s : Side) → on-side s l ≡ Some k → (s ≡ dequeuing) × (l ≡ k)
-    go neither f = clash (cc)
-    go enqueuing f = clash (cc)
-    go dequeuing f = (refl, cc)
+    go : (s : Side) → on-side s l ≡ Some k → (s ≡ Dequeuing) × (l ≡ k)
+    go Neither f = clash (cc)
+    go Enqueuing f = clash (cc)
+    go Dequeuing f = (refl, cc)
 
 module _ {I : Type 0} where
   -- the ticket that the worker's dequeue is at work on

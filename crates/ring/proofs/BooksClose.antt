@@ -8,11 +8,13 @@ use Rattle.std.specs.declared.result.Result.the-variants.{Ok}
 use Rattle.tickets.specs.declared.Ticket.{Ticket}
 use Rattle.tickets.specs.declared.WorkerNo.{WorkerNo}
 use Rattle.ring.specs.declared.table.Worker.{Worker}
+use Rattle.ring.specs.declared.table.Side.{Side}
+use Rattle.ring.specs.declared.table.Side.the-variants.{Neither, Enqueuing, Dequeuing}
 use Rattle.ring.specs.declared.answers.Answer.{Answer}
 use Rattle.ring.specs.declared.answers.Answer.the-variants.{Working, Placed, Taken, PassedOver, Empty}
 use Rattle.ring.specs.declared.call.Call.{Call}
 use Rattle.ring.specs.Table.{Table, InRange, laid-out, worker, cell, occupied, Held}
-use Rattle.ring.specs.Phases.{Side, side, neither, enqueuing, dequeuing}
+use Rattle.ring.specs.Phases.{side}
 use Rattle.ring.specs.Turns.{Turn, KindStep}
 use Rattle.ring.specs.Rows.{Outcome, turned}
 use Rattle.ring.specs.Calls.{row, called, after}
@@ -48,13 +50,13 @@ module _ {I : Type 0} where
   empty-move finds-empty w d e = refl
 
   never-empty : (x : Side) (w : Worker I) (out : Turn I) (d : Ticket) → TurnOf x w out → out .answer ≡ Empty d → ⊥
-  never-empty neither w out d y e = y
-  never-empty enqueuing w out d (EnqueueTurn.went-on a k r p q) e = clash (cc)
-  never-empty enqueuing w out d (EnqueueTurn.gave-up a k p) e = clash (cc)
-  never-empty enqueuing w out d (EnqueueTurn.did-place i it a f) e = clash (cc)
-  never-empty dequeuing w out d (DequeueTurn.went-on a k r p q) e = clash (cc)
-  never-empty dequeuing w out d (DequeueTurn.did-pass a k p) e = clash (cc)
-  never-empty dequeuing w out d (DequeueTurn.did-take i a f) e = clash (cc)
+  never-empty Neither w out d y e = y
+  never-empty Enqueuing w out d (EnqueueTurn.went-on a k r p q) e = clash (cc)
+  never-empty Enqueuing w out d (EnqueueTurn.gave-up a k p) e = clash (cc)
+  never-empty Enqueuing w out d (EnqueueTurn.did-place i it a f) e = clash (cc)
+  never-empty Dequeuing w out d (DequeueTurn.went-on a k r p q) e = clash (cc)
+  never-empty Dequeuing w out d (DequeueTurn.did-pass a k p) e = clash (cc)
+  never-empty Dequeuing w out d (DequeueTurn.did-take i a f) e = clash (cc)
 
 module _ {I : Type 0} (step : KindStep I) (held : Table I → Ticket → I → Type 0) (barred : Table I → Ticket → Type 0) (laws : Lawful step held barred) where
   orderly : (t : Table I) → Reached step t → Orderly t
@@ -87,32 +89,32 @@ module _ {I : Type 0} (step : KindStep I) (held : Table I → Ticket → I → T
         answers Working a (books-working barred t led (orderly t r) b n (d .there) out bars g (l .0) (l .1) e)
 
     turn-books : (x : Side) → side (worker t n .phase) ≡ x → TurnOf x (worker t n) out → Books barred (answered t led n out (out .answer))
-    turn-books neither e y = absurd y
-    turn-books enqueuing e (EnqueueTurn.went-on a k row p q) =
-        working-books a (turn-goes enqueuing (t .counters) (worker t n) out (drawn-side enqueuing e) (EnqueueTurn.went-on a k row p q))
-        (cc (working-inside (out .worker) row p, working-side enqueuing e))
-    turn-books enqueuing e (EnqueueTurn.gave-up a k p) =
-        working-books a (turn-goes enqueuing (t .counters) (worker t n) out (drawn-side enqueuing e) (EnqueueTurn.gave-up a k p))
-        (cc (ap (λ y. at-work-in y (out .worker .ticket)) p, working-side enqueuing e))
-    turn-books enqueuing e (EnqueueTurn.did-place i it a f) =
+    turn-books Neither e y = absurd y
+    turn-books Enqueuing e (EnqueueTurn.went-on a k row p q) =
+        working-books a (turn-goes Enqueuing (t .counters) (worker t n) out (drawn-side Enqueuing e) (EnqueueTurn.went-on a k row p q))
+        (cc (working-inside (out .worker) row p, working-side Enqueuing e))
+    turn-books Enqueuing e (EnqueueTurn.gave-up a k p) =
+        working-books a (turn-goes Enqueuing (t .counters) (worker t n) out (drawn-side Enqueuing e) (EnqueueTurn.gave-up a k p))
+        (cc (ap (λ y. at-work-in y (out .worker .ticket)) p, working-side Enqueuing e))
+    turn-books Enqueuing e (EnqueueTurn.did-place i it a f) =
         let l = laws .places-free t r n out (worker t n .ticket) i d a in
         answers (Placed (worker t n .ticket) i) a
-        (books-placed barred t led (orderly t r) b n (d .there) out bars i (drawn-side enqueuing e) (ap (λ y. drawn (y .phase)) f) (ap working f ∙ sym (working-side enqueuing e)) (l .0) (l .1)
+        (books-placed barred t led (orderly t r) b n (d .there) out bars i (drawn-side Enqueuing e) (ap (λ y. drawn (y .phase)) f) (ap working f ∙ sym (working-side Enqueuing e)) (l .0) (l .1)
         (laws .meaning (then-table t n out) (worker t n .ticket) i .0 (l .2)))
-    turn-books dequeuing e (DequeueTurn.went-on a k row p q) =
-        working-books a (turn-goes dequeuing (t .counters) (worker t n) out (drawn-side dequeuing e) (DequeueTurn.went-on a k row p q))
-        (cc (working-inside (out .worker) row p, working-side dequeuing e))
-    turn-books dequeuing e (DequeueTurn.did-pass a k p) =
+    turn-books Dequeuing e (DequeueTurn.went-on a k row p q) =
+        working-books a (turn-goes Dequeuing (t .counters) (worker t n) out (drawn-side Dequeuing e) (DequeueTurn.went-on a k row p q))
+        (cc (working-inside (out .worker) row p, working-side Dequeuing e))
+    turn-books Dequeuing e (DequeueTurn.did-pass a k p) =
         let l = leaves (λ k i x. clash (cc), λ k i x. clash (cc)) in
         let m = laws .passes-barred t r n out (worker t n .ticket) d a in
         answers (PassedOver (worker t n .ticket)) a
         (books-passed barred t led (orderly t r) b n (d .there) out bars
-        (turn-goes dequeuing (t .counters) (worker t n) out (drawn-side dequeuing e) (DequeueTurn.did-pass a k p)) (l .0) (l .1) (working-side dequeuing e)
+        (turn-goes Dequeuing (t .counters) (worker t n) out (drawn-side Dequeuing e) (DequeueTurn.did-pass a k p)) (l .0) (l .1) (working-side Dequeuing e)
         (ap (λ y. at-work-in y (out .worker .ticket)) p) (λ i h. m .0 i (laws .meaning t (worker t n .ticket) i .1 h)) (m .1))
-    turn-books dequeuing e (DequeueTurn.did-take i a f) =
+    turn-books Dequeuing e (DequeueTurn.did-take i a f) =
         let l = laws .takes-held t r n out (worker t n .ticket) i d a in
         answers (Taken (worker t n .ticket) i) a
-        (books-taken barred t led (orderly t r) b n (d .there) out bars i (working-side dequeuing e) (ap (λ y. drawn (y .phase)) f) (ap working f)
+        (books-taken barred t led (orderly t r) b n (d .there) out bars i (working-side Dequeuing e) (ap (λ y. drawn (y .phase)) f) (ap working f)
         (laws .meaning t (worker t n .ticket) i .0 (l .0)) (l .1))
 
   -- the books stand after any call

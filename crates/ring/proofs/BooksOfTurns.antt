@@ -10,13 +10,14 @@ use Rattle.tickets.specs.declared.Ticket.{Ticket}
 use Rattle.tickets.specs.declared.WorkerNo.{WorkerNo}
 use Rattle.ring.specs.declared.table.Worker.{Worker}
 use Rattle.ring.specs.declared.table.Value.the-variants.{Empty}
+use Rattle.ring.specs.declared.table.Side.the-variants.{Neither, Enqueuing}
 use Rattle.ring.specs.declared.table.KindRow.{KindRow}
 use Rattle.ring.specs.declared.table.Phase.the-variants.{Kind}
 use Rattle.ring.specs.declared.answers.Answer.{Answer}
 use Rattle.ring.specs.declared.answers.Answer.the-variants.{Working, Placed, Taken, PassedOver}
 use Rattle.ring.specs.declared.call.Call.the-variants.{Step}
 use Rattle.ring.specs.Table.{Table, ticket, worker, cell, occupied, Held}
-use Rattle.ring.specs.Phases.{kind-side, neither, enqueuing}
+use Rattle.ring.specs.Phases.{kind-side}
 use Rattle.ring.specs.Fields.{shut}
 use Rattle.ring.specs.Turns.{Turn, goes}
 use Rattle.ring.specs.Calls.{is-worker}
@@ -91,7 +92,7 @@ module _ {I : Type 0} where
                 items-passed barred (then-table t n out) (led .events) turn-items l (λ i h. unheld i (turn-held l i .1 h)) (omega arith) shut;
           }
 
-    pub books-taken : (i : I) → working (worker t n) ≡ Some (worker t n .ticket) → drawn (out .worker .phase) ≡ neither → working (out .worker) ≡ None
+    pub books-taken : (i : I) → working (worker t n) ≡ Some (worker t n .ticket) → drawn (out .worker .phase) ≡ Neither → working (out .worker) ≡ None
         → Held t (worker t n .ticket) i → out .cell .value ≡ Empty → Books barred (answered t led n out (Taken (worker t n .ticket) i))
     books-taken i e r e′ held empty =
         let l = worker t n .ticket in
@@ -101,7 +102,7 @@ module _ {I : Type 0} where
           items = items-taken barred t o (led .events) (b .items) n there (out .worker) l (out .cell) i r held empty bars;
         }
 
-    pub books-placed : (i : I) → drawn (worker t n .phase) ≡ enqueuing → drawn (out .worker .phase) ≡ neither → working (out .worker) ≡ working (worker t n)
+    pub books-placed : (i : I) → drawn (worker t n .phase) ≡ Enqueuing → drawn (out .worker .phase) ≡ Neither → working (out .worker) ≡ working (worker t n)
         → occupied (cell t (worker t n .ticket) .value) ≡ false → (barred t (worker t n .ticket) → ⊥)
         → Held (then-table t n out) (worker t n .ticket) i → Books barred (answered t led n out (Placed (worker t n .ticket) i))
     books-placed i d r e free unbarred held =

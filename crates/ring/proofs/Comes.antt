@@ -9,6 +9,7 @@ use Rattle.std.specs.declared.result.Result.the-variants.{Ok, Err}
 use Rattle.std.specs.declared.option.Option.{Option}
 use Rattle.std.specs.declared.option.Option.the-variants.{None, Some}
 use Rattle.tickets.specs.declared.WorkerNo.{WorkerNo}
+use Rattle.ring.specs.declared.table.Side.{Side}
 use Rattle.ring.specs.declared.table.EngineRow.{EngineRow}
 use Rattle.ring.specs.declared.table.EngineRow.the-variants.{E1, E2, E9, E10, D1, D9}
 use Rattle.ring.specs.declared.table.KindRow.{KindRow}
@@ -20,7 +21,7 @@ use Rattle.ring.specs.declared.answers.Refusal.the-variants.{Misfit, Nobody, B
 use Rattle.ring.specs.declared.call.Call.{Call}
 use Rattle.ring.specs.declared.call.Call.the-variants.{AssignEnqueue, AssignDequeue, Step}
 use Rattle.ring.specs.Table.{Table, counter-limit, worker, cell}
-use Rattle.ring.specs.Phases.{Side, engine-side, kind-side, is-idle}
+use Rattle.ring.specs.Phases.{engine-side, kind-side, is-idle}
 use Rattle.ring.specs.Fields.{shut, with-phase, finished}
 use Rattle.ring.specs.Turns.{Turn, KindStep}
 use Rattle.ring.specs.Rows.{Outcome, refused, moved, carrying, engine-row, turned}

@@ -13,12 +13,14 @@ use Rattle.tickets.specs.declared.WorkerNo.{WorkerNo}
 use Rattle.tickets.specs.Places.{slot}
 use Rattle.ring.specs.declared.table.Cell.{Cell}
 use Rattle.ring.specs.declared.table.Worker.{Worker}
+use Rattle.ring.specs.declared.table.Side.{Side}
+use Rattle.ring.specs.declared.table.Side.the-variants.{Neither, Enqueuing, Dequeuing}
 use Rattle.ring.specs.declared.table.KindRow.{KindRow}
 use Rattle.ring.specs.declared.table.Phase.the-variants.{Kind}
 use Rattle.ring.specs.declared.call.Call.{Call}
 use Rattle.ring.specs.declared.call.Call.the-variants.{Step}
 use Rattle.ring.specs.Table.{Table, InRange, counter-limit, laid-out, worker, cell}
-use Rattle.ring.specs.Phases.{Side, kind-side, side, neither, enqueuing, dequeuing}
+use Rattle.ring.specs.Phases.{kind-side, side}
 use Rattle.ring.specs.Turns.{Turn, KindStep}
 use Rattle.ring.specs.Rows.{Outcome, turned}
 use Rattle.ring.specs.Calls.{counts-agree, is-worker, carries, fit, row, called, after}
@@ -88,12 +90,12 @@ module _ {I : Type 0} (step : KindStep I) where
 
     -- a turn of the kind is one that calls lead to
     turn-fit : (t : Table I) → Orderly t → (n : WorkerNo) → is-worker t n ≡ true → (k : KindRow) → worker t n .phase ≡ Kind k → (x : Side) → kind-side k ≡ x → fit (worker t n) x ≡ true
-    turn-fit t o n b k p neither e = refl
-    turn-fit t o n b k p enqueuing e =
+    turn-fit t o n b k p Neither e = refl
+    turn-fit t o n b k p Enqueuing e =
         let r = o .enqueues n b (ap drawn p ∙ e) in
         and-from (ltb (worker t n .ticket .0) counter-limit) (carries (worker t n .item)) (lt-ltb (worker t n .ticket .0) counter-limit (omega (arith, o .tail-to)))
         (ap carries (o .carries n b (ap side p ∙ e) .1))
-    turn-fit t o n b k p dequeuing e = let r = o .dequeues n b (ap drawn p ∙ e) in lt-ltb (worker t n .ticket .0) counter-limit (omega (arith, o .head-to))
+    turn-fit t o n b k p Dequeuing e = let r = o .dequeues n b (ap drawn p ∙ e) in lt-ltb (worker t n .ticket .0) counter-limit (omega (arith, o .head-to))
 
     turn-called : (t : Table I) → Orderly t → (n : WorkerNo) (out : Turn I) → Turned step t n out → called step t (Step n) ≡ turned t n (worker t n .ticket) (Ok out)
     turn-called t o n out d =

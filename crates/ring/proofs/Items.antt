@@ -6,16 +6,14 @@ use mathlib.Core.Logic.{_⊎_, inl, inr}
 use Prim.Native.Nat.{ℕ, _+_, _%_, _<_, _≤_}
 use native.Mathlib.Omega.{arith}
 use Rattle.std.proofs.shelf.Tests.{cases-eq}
-use Rattle.std.specs.declared.option.Option.the-variants.{Some}
 use Rattle.tickets.specs.declared.Ticket.{Ticket}
 use Rattle.tickets.specs.declared.WorkerNo.{WorkerNo}
 use Rattle.tickets.specs.Places.{round, slot}
 use Rattle.ring.specs.declared.table.Cell.{Cell}
 use Rattle.ring.specs.declared.table.Worker.{Worker}
-use Rattle.ring.specs.declared.table.Value.{Value}
-use Rattle.ring.specs.declared.table.Value.the-variants.{Empty, Token, Item}
+use Rattle.ring.specs.declared.table.Value.the-variants.{Empty, Item}
+use Rattle.ring.specs.declared.table.Side.the-variants.{Neither, Enqueuing}
 use Rattle.ring.specs.Table.{Counters, Table, one-if, worker, cell, occupied, occupied-cells, Held}
-use Rattle.ring.specs.Phases.{neither, enqueuing}
 use Rattle.ring.specs.Turns.{goes}
 use Rattle.ring.specs.Calls.{is-worker}
 use Rattle.ring.specs.Ledger.{Event, placed, taken, passed-over}
@@ -23,6 +21,7 @@ use Rattle.ring.specs.Books.{Happened, times, is-placing, is-taking, placing, 
 use Rattle.ring.specs.Laws.{item-of}
 use Rattle.ring.proofs.Equals.{clash, same-ticket}
 use Rattle.ring.proofs.Rounds.{same-place}
+use Rattle.ring.proofs.Values.{item-back, occupied-by-item}
 use Rattle.ring.proofs.Orderly.{Orderly, drawn}
 use Rattle.ring.proofs.Writes.{put, each-put, changed, slot-in, cell-was, cell-here, cell-else}
 use Rattle.ring.proofs.Tickets.{Grows, Goes, grows-none, rests, keeps, takes-tail, takes-head}
@@ -33,7 +32,7 @@ module _ {I : Type 0} where
   pub record Items (barred : Table I → Ticket → Type 0) (t : Table I) (es : List (Event I)) : Type 0 where
     pub none-before : (k : ℕ) → k < t .counters .cells → times (placing k) es ≡ 0
     pub none-later : (k : ℕ) → t .counters .tail ≤ k → times (placing k) es ≡ 0
-    pub unplaced : (n : WorkerNo) → is-worker t n ≡ true → drawn (worker t n .phase) ≡ enqueuing → times (placing (worker t n .ticket .0)) es ≡ 0
+    pub unplaced : (n : WorkerNo) → is-worker t n ≡ true → drawn (worker t n .phase) ≡ Enqueuing → times (placing (worker t n .ticket .0)) es ≡ 0
     pub placed-once : (k : ℕ) → times (placing k) es ≤ 1
     pub taken-once : (k : ℕ) → times (taking k) es ≤ 1
     pub taken-from-placed : FromPlaced es
@@ -46,22 +45,6 @@ module _ {I : Type 0} where
   -- held by that cell, in a ring of r cells
   abbrev HeldIn : ℕ → Ticket → I → Cell I → Type 0
   HeldIn r k i c = (c .value ≡ Item i) × (c .pair .epoch ≡ round r k)
-
-  item-back : (v : Value I) (i : I) → item-of v ≡ Some i → v ≡ Item i
-  item-back Empty i e = cc
-  item-back (Token n) i e = cc
-  item-back (Item j) i e = cc
-
-  occupied-by-item : (u v : Value I) → item-of u ≡ item-of v → occupied u ≡ occupied v
-  occupied-by-item Empty Empty e = refl
-  occupied-by-item Empty (Token n) e = refl
-  occupied-by-item Empty (Item j) e = cc
-  occupied-by-item (Token m) Empty e = refl
-  occupied-by-item (Token m) (Token n) e = refl
-  occupied-by-item (Token m) (Item j) e = cc
-  occupied-by-item (Item i) Empty e = cc
-  occupied-by-item (Item i) (Token n) e = cc
-  occupied-by-item (Item i) (Item j) e = refl
 
   -- the cell of the ticket l is replaced by x
   module _ (t : Table I) (o : Orderly t) (l : Ticket) (x : Cell I) (n : WorkerNo) (w : Worker I) where
@@ -93,12 +76,12 @@ module _ {I : Type 0} where
     -- the tickets under way stay unplaced where nothing is placed
     still-unplaced : (c : Counters) (cs : List (Cell I)) (es′ : List (Event I)) → Grows (t .counters) c → Goes (t .counters) c (worker t n) w
         → ((k : ℕ) → times (placing k) es′ ≡ times (placing k) es)
-        → (m : WorkerNo) → is-worker (put t c cs n w) m ≡ true → drawn (worker (put t c cs n w) m .phase) ≡ enqueuing → times (placing (worker (put t c cs n w) m .ticket .0)) es′ ≡ 0
+        → (m : WorkerNo) → is-worker (put t c cs n w) m ≡ true → drawn (worker (put t c cs n w) m .phase) ≡ Enqueuing → times (placing (worker (put t c cs n w) m .ticket .0)) es′ ≡ 0
     still-unplaced c cs es′ grows goes f m b =
-        each-put t o c cs n there w (λ _ v. drawn (v .phase) ≡ enqueuing → times (placing (v .ticket .0)) es′ ≡ 0) (λ d. f (w .ticket .0) ∙ go goes d)
+        each-put t o c cs n there w (λ _ v. drawn (v .phase) ≡ Enqueuing → times (placing (v .ticket .0)) es′ ≡ 0) (λ d. f (w .ticket .0) ∙ go goes d)
         (λ k e _ d. f (worker t k .ticket .0) ∙ a .unplaced k e d) m (rw (grows .crew) at b)
       where
-        go : Goes (t .counters) c (worker t n) w → drawn (w .phase) ≡ enqueuing → times (placing (w .ticket .0)) es ≡ 0
+        go : Goes (t .counters) c (worker t n) w → drawn (w .phase) ≡ Enqueuing → times (placing (w .ticket .0)) es ≡ 0
         go (rests e) d = clash (cc)
         go (keeps e k) d = rw k (a .unplaced n there (sym e ∙ d))
         go (takes-tail e k q) d = a .none-later (w .ticket .0) (omega arith)
@@ -124,7 +107,7 @@ module _ {I : Type 0} where
         }
 
     -- the ticket l is placed
-    pub items-placed : (l : Ticket) (x : Cell I) (i : I) → worker t n .ticket ≡ l → drawn (worker t n .phase) ≡ enqueuing → drawn (w .phase) ≡ neither
+    pub items-placed : (l : Ticket) (x : Cell I) (i : I) → worker t n .ticket ≡ l → drawn (worker t n .phase) ≡ Enqueuing → drawn (w .phase) ≡ Neither
         → occupied (cell t l .value) ≡ false → (barred t l → ⊥) → Held (changed t l x n w) l i → ((k : Ticket) → barred t k → barred (changed t l x n w) k)
         → Items barred (changed t l x n w) (placed l i ∷ es)
     items-placed l x i eq d r free unbarred held bars =
@@ -137,7 +120,7 @@ module _ {I : Type 0} where
           none-before = λ k h. omega (arith, one-other (l .0) k (λ e. omega arith), a .none-before k h);
           none-later = λ k h. omega (arith, one-other (l .0) k (λ e. omega arith), a .none-later k h);
           unplaced =
-              each-put t o (t .counters) (changed t l x n w .cells) n there w (λ _ v. drawn (v .phase) ≡ enqueuing → times (placing (v .ticket .0)) (placed l i ∷ es) ≡ 0)
+              each-put t o (t .counters) (changed t l x n w .cells) n there w (λ _ v. drawn (v .phase) ≡ Enqueuing → times (placing (v .ticket .0)) (placed l i ∷ es) ≡ 0)
               (λ e. clash (cc))
               (λ j g h e.
               let away : l .0 ≡ worker t j .ticket .0 → ⊥ = λ z. o .apart j n g there h (e ∙ sym d) (λ y. clash (cc)) (sym z ∙ sym number) in
@@ -193,7 +176,7 @@ module _ {I : Type 0} where
         }
 
     -- the ticket l is taken
-    pub items-taken : (l : Ticket) (x : Cell I) (i : I) → drawn (w .phase) ≡ neither → Held t l i → x .value ≡ Empty → ((k : Ticket) → barred t k → barred (changed t l x n w) k)
+    pub items-taken : (l : Ticket) (x : Cell I) (i : I) → drawn (w .phase) ≡ Neither → Held t l i → x .value ≡ Empty → ((k : Ticket) → barred t k → barred (changed t l x n w) k)
         → Items barred (changed t l x n w) (taken l i ∷ es)
     items-taken l x i r held empty bars =
         let was = a .held-is-placed l i held in

@@ -1,6 +1,7 @@
 pub mod Equals
 pub mod Rounds
 pub mod Pairs
+pub mod Values
 pub mod Moves
 pub mod Comes
 pub mod Orderly
@@ -8,6 +9,7 @@ pub mod Writes
 pub mod New
 pub mod Tickets
 pub mod Frames
+pub mod RowByRow
 pub mod Lawful
 pub mod Induction
 pub mod Events

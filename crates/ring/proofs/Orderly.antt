@@ -8,28 +8,30 @@ use Rattle.std.proofs.shelf.Tests.{leb-true, and-parts}
 use Rattle.std.specs.declared.option.Option.the-variants.{Some}
 use Rattle.tickets.specs.declared.WorkerNo.{WorkerNo}
 use Rattle.ring.specs.declared.table.Worker.{Worker}
+use Rattle.ring.specs.declared.table.Side.{Side}
+use Rattle.ring.specs.declared.table.Side.the-variants.{Neither, Enqueuing, Dequeuing}
 use Rattle.ring.specs.declared.table.EngineRow.the-variants.{E1, E2, E9, E10, D1, D9}
 use Rattle.ring.specs.declared.table.Phase.{Phase}
 use Rattle.ring.specs.declared.table.Phase.the-variants.{Idle, Engine, Kind}
 use Rattle.ring.specs.Table.{Table, InRange, counter-limit, worker}
-use Rattle.ring.specs.Phases.{Side, kind-side, side, neither, enqueuing, dequeuing}
+use Rattle.ring.specs.Phases.{kind-side, side}
 use Rattle.ring.specs.Calls.{is-worker}
 
 -- the side on which a worker in this phase has drawn its ticket
 abbrev pub drawn : Phase → Side
-drawn Idle = neither
-drawn (Engine E1) = neither
-drawn (Engine E2) = enqueuing
-drawn (Engine E9) = enqueuing
-drawn (Engine E10) = enqueuing
-drawn (Engine D1) = neither
-drawn (Engine D9) = dequeuing
+drawn Idle = Neither
+drawn (Engine E1) = Neither
+drawn (Engine E2) = Enqueuing
+drawn (Engine E9) = Enqueuing
+drawn (Engine E10) = Enqueuing
+drawn (Engine D1) = Neither
+drawn (Engine D9) = Dequeuing
 drawn (Kind k) = kind-side k
 
 module _ {I : Type 0} where
   -- two workers that have drawn on one side have two tickets
   abbrev pub Apart : Worker I → Worker I → Type 0
-  Apart v w = drawn (v .phase) ≡ drawn (w .phase) → (drawn (v .phase) ≡ neither → ⊥) → v .ticket .0 ≡ w .ticket .0 → ⊥
+  Apart v w = drawn (v .phase) ≡ drawn (w .phase) → (drawn (v .phase) ≡ Neither → ⊥) → v .ticket .0 ≡ w .ticket .0 → ⊥
 
   -- what holds of every table that calls led to, whatever the cells hold
   pub record Orderly (t : Table I) : Type 0 where
@@ -40,10 +42,10 @@ module _ {I : Type 0} where
     pub head-to : t .counters .head ≤ counter-limit
     pub tail-from : t .counters .cells ≤ t .counters .tail
     pub tail-to : t .counters .tail ≤ counter-limit
-    pub carries : (n : WorkerNo) → is-worker t n ≡ true → side (worker t n .phase) ≡ enqueuing → (i : I) × (worker t n .item ≡ Some i)
-    pub enqueues : (n : WorkerNo) → is-worker t n ≡ true → drawn (worker t n .phase) ≡ enqueuing
+    pub carries : (n : WorkerNo) → is-worker t n ≡ true → side (worker t n .phase) ≡ Enqueuing → (i : I) × (worker t n .item ≡ Some i)
+    pub enqueues : (n : WorkerNo) → is-worker t n ≡ true → drawn (worker t n .phase) ≡ Enqueuing
         → (t .counters .cells ≤ worker t n .ticket .0) × (worker t n .ticket .0 < t .counters .tail)
-    pub dequeues : (n : WorkerNo) → is-worker t n ≡ true → drawn (worker t n .phase) ≡ dequeuing
+    pub dequeues : (n : WorkerNo) → is-worker t n ≡ true → drawn (worker t n .phase) ≡ Dequeuing
         → (t .counters .cells ≤ worker t n .ticket .0) × (worker t n .ticket .0 < t .counters .head)
     pub apart : (n m : WorkerNo) → is-worker t n ≡ true → is-worker t m ≡ true → (n .0 ≡ m .0 → ⊥) → Apart (worker t n) (worker t m)
 

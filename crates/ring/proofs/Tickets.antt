@@ -10,8 +10,10 @@ use Rattle.tickets.specs.declared.WorkerNo.{WorkerNo}
 use Rattle.tickets.specs.Places.{slot}
 use Rattle.ring.specs.declared.table.Cell.{Cell}
 use Rattle.ring.specs.declared.table.Worker.{Worker}
+use Rattle.ring.specs.declared.table.Side.{Side}
+use Rattle.ring.specs.declared.table.Side.the-variants.{Neither, Enqueuing, Dequeuing}
 use Rattle.ring.specs.Table.{Counters, Table, counter-limit, worker}
-use Rattle.ring.specs.Phases.{Side, side, neither, enqueuing, dequeuing}
+use Rattle.ring.specs.Phases.{side}
 use Rattle.ring.specs.Turns.{Turn, KindStep, goes}
 use Rattle.ring.specs.Calls.{is-worker, carries}
 use Rattle.ring.specs.Laws.{Turned, EnqueueTurn, DequeueTurn, then-table, TurnOf, TouchesItsOwn}
@@ -35,17 +37,17 @@ grows-none c = record { ring = refl; crew = refl; head = omega arith; head-to = 
 module _ {I : Type 0} where
   -- how a worker's ticket goes on: given up, kept on its side, or drawn
   pub data Goes (c c′ : Counters) (w w′ : Worker I) : Type 0 where
-    rests : drawn (w′ .phase) ≡ neither → Goes c c′ w w′
+    rests : drawn (w′ .phase) ≡ Neither → Goes c c′ w w′
     keeps : drawn (w′ .phase) ≡ drawn (w .phase) → w′ .ticket .0 ≡ w .ticket .0 → Goes c c′ w w′
-    takes-tail : drawn (w′ .phase) ≡ enqueuing → w′ .ticket .0 ≡ c .tail → c′ .tail ≡ c .tail + 1 → Goes c c′ w w′
-    takes-head : drawn (w′ .phase) ≡ dequeuing → w′ .ticket .0 ≡ c .head → c′ .head ≡ c .head + 1 → Goes c c′ w w′
+    takes-tail : drawn (w′ .phase) ≡ Enqueuing → w′ .ticket .0 ≡ c .tail → c′ .tail ≡ c .tail + 1 → Goes c c′ w w′
+    takes-head : drawn (w′ .phase) ≡ Dequeuing → w′ .ticket .0 ≡ c .head → c′ .head ≡ c .head + 1 → Goes c c′ w w′
 
   module _ (t : Table I) (o : Orderly t) (c : Counters) (cs : List (Cell I)) (n : WorkerNo) (there : is-worker t n ≡ true) (w : Worker I) (grows : Grows (t .counters) c)
       (goes : Goes (t .counters) c (worker t n) w) where
     was-there : (m : WorkerNo) → is-worker (put t c cs n w) m ≡ true → is-worker t m ≡ true
     was-there m b = rw (grows .crew) at b
 
-    set-enqueues : drawn (w .phase) ≡ enqueuing → (t .counters .cells ≤ w .ticket .0) × (w .ticket .0 < c .tail)
+    set-enqueues : drawn (w .phase) ≡ Enqueuing → (t .counters .cells ≤ w .ticket .0) × (w .ticket .0 < c .tail)
     set-enqueues d = go goes
       where
         go : Goes (t .counters) c (worker t n) w → (t .counters .cells ≤ w .ticket .0) × (w .ticket .0 < c .tail)
@@ -54,7 +56,7 @@ module _ {I : Type 0} where
         go (takes-tail e k l) = omega arith
         go (takes-head e k l) = clash (cc)
 
-    set-dequeues : drawn (w .phase) ≡ dequeuing → (t .counters .cells ≤ w .ticket .0) × (w .ticket .0 < c .head)
+    set-dequeues : drawn (w .phase) ≡ Dequeuing → (t .counters .cells ≤ w .ticket .0) × (w .ticket .0 < c .head)
     set-dequeues d = go goes
       where
         go : Goes (t .counters) c (worker t n) w → (t .counters .cells ≤ w .ticket .0) × (w .ticket .0 < c .head)
@@ -72,7 +74,7 @@ module _ {I : Type 0} where
         go (takes-tail r k l) = let q = o .enqueues m b (cc) in omega arith
         go (takes-head r k l) = let q = o .dequeues m b (cc) in omega arith
 
-    pub orderly-put : length cs ≡ length (t .cells) → (side (w .phase) ≡ enqueuing → (i : I) × (w .item ≡ Some i)) → Orderly (put t c cs n w)
+    pub orderly-put : length cs ≡ length (t .cells) → (side (w .phase) ≡ Enqueuing → (i : I) × (w .item ≡ Some i)) → Orderly (put t c cs n w)
     orderly-put same item =
         record {
           in-range = let r = o .in-range in omega arith;
@@ -82,14 +84,14 @@ module _ {I : Type 0} where
           head-to = grows .head-to (o .head-to);
           tail-from = omega arith;
           tail-to = grows .tail-to (o .tail-to);
-          carries = λ m b. each-put t o c cs n there w (λ _ v. side (v .phase) ≡ enqueuing → (i : I) × (v .item ≡ Some i)) item (λ k a _. o .carries k a) m (was-there m b);
+          carries = λ m b. each-put t o c cs n there w (λ _ v. side (v .phase) ≡ Enqueuing → (i : I) × (v .item ≡ Some i)) item (λ k a _. o .carries k a) m (was-there m b);
           enqueues =
               λ m b.
-              each-put t o c cs n there w (λ _ v. drawn (v .phase) ≡ enqueuing → (c .cells ≤ v .ticket .0) × (v .ticket .0 < c .tail))
+              each-put t o c cs n there w (λ _ v. drawn (v .phase) ≡ Enqueuing → (c .cells ≤ v .ticket .0) × (v .ticket .0 < c .tail))
               (λ d. let q = set-enqueues d in omega arith) (λ k a _ d. let q = o .enqueues k a d in omega arith) m (was-there m b);
           dequeues =
               λ m b.
-              each-put t o c cs n there w (λ _ v. drawn (v .phase) ≡ dequeuing → (c .cells ≤ v .ticket .0) × (v .ticket .0 < c .head))
+              each-put t o c cs n there w (λ _ v. drawn (v .phase) ≡ Dequeuing → (c .cells ≤ v .ticket .0) × (v .ticket .0 < c .head))
               (λ d. let q = set-dequeues d in omega arith) (λ k a _ d. let q = o .dequeues k a d in omega arith) m (was-there m b);
           apart =
               λ m l b a.
@@ -127,8 +129,8 @@ module _ {I : Type 0} where
   move-goes finds-more c w p = rests refl
   move-goes finds-empty c w p = rests refl
 
-  move-item : (m : Move I) (c : Counters) (w : Worker I) → w .phase ≡ move-from m → (side (w .phase) ≡ enqueuing → (i : I) × (w .item ≡ Some i))
-      → side (move-worker m c w .phase) ≡ enqueuing → (i : I) × (move-worker m c w .item ≡ Some i)
+  move-item : (m : Move I) (c : Counters) (w : Worker I) → w .phase ≡ move-from m → (side (w .phase) ≡ Enqueuing → (i : I) × (w .item ≡ Some i))
+      → side (move-worker m c w .phase) ≡ Enqueuing → (i : I) × (move-worker m c w .item ≡ Some i)
   move-item (gets-enqueue i) c w p k s = (i, refl)
   move-item gets-dequeue c w p k s = clash (cc)
   move-item draws-tail c w p k s = k (ap side p)
@@ -148,23 +150,23 @@ module _ {I : Type 0} where
 
   -- a turn of the kind keeps a table orderly
   pub turn-goes : (s : Side) (c : Counters) (w : Worker I) (out : Turn I) → drawn (w .phase) ≡ s → TurnOf s w out → Goes c c w (out .worker)
-  turn-goes neither c w out d x = absurd x
-  turn-goes enqueuing c w out d (EnqueueTurn.went-on a k r p q) = keeps (cc) (cc)
-  turn-goes enqueuing c w out d (EnqueueTurn.gave-up a k p) = keeps (cc) (cc)
-  turn-goes enqueuing c w out d (EnqueueTurn.did-place i it a f) = rests (cc)
-  turn-goes dequeuing c w out d (DequeueTurn.went-on a k r p q) = keeps (cc) (cc)
-  turn-goes dequeuing c w out d (DequeueTurn.did-pass a k p) = keeps (cc) (cc)
-  turn-goes dequeuing c w out d (DequeueTurn.did-take i a f) = rests (cc)
+  turn-goes Neither c w out d x = absurd x
+  turn-goes Enqueuing c w out d (EnqueueTurn.went-on a k r p q) = keeps (cc) (cc)
+  turn-goes Enqueuing c w out d (EnqueueTurn.gave-up a k p) = keeps (cc) (cc)
+  turn-goes Enqueuing c w out d (EnqueueTurn.did-place i it a f) = rests (cc)
+  turn-goes Dequeuing c w out d (DequeueTurn.went-on a k r p q) = keeps (cc) (cc)
+  turn-goes Dequeuing c w out d (DequeueTurn.did-pass a k p) = keeps (cc) (cc)
+  turn-goes Dequeuing c w out d (DequeueTurn.did-take i a f) = rests (cc)
 
-  turn-item : (s : Side) (w : Worker I) (out : Turn I) → (s ≡ enqueuing → (i : I) × (w .item ≡ Some i)) → TurnOf s w out
-      → side (out .worker .phase) ≡ enqueuing → (i : I) × (out .worker .item ≡ Some i)
-  turn-item neither w out c x e = absurd x
-  turn-item enqueuing w out c (EnqueueTurn.went-on a k r p q) e = let j = c refl in (j .0, cc)
-  turn-item enqueuing w out c (EnqueueTurn.gave-up a k p) e = let j = c refl in (j .0, cc)
-  turn-item enqueuing w out c (EnqueueTurn.did-place i it a f) e = clash (cc)
-  turn-item dequeuing w out c (DequeueTurn.went-on a k r p q) e = clash (cc)
-  turn-item dequeuing w out c (DequeueTurn.did-pass a k p) e = clash (cc)
-  turn-item dequeuing w out c (DequeueTurn.did-take i a f) e = clash (cc)
+  turn-item : (s : Side) (w : Worker I) (out : Turn I) → (s ≡ Enqueuing → (i : I) × (w .item ≡ Some i)) → TurnOf s w out
+      → side (out .worker .phase) ≡ Enqueuing → (i : I) × (out .worker .item ≡ Some i)
+  turn-item Neither w out c x e = absurd x
+  turn-item Enqueuing w out c (EnqueueTurn.went-on a k r p q) e = let j = c refl in (j .0, cc)
+  turn-item Enqueuing w out c (EnqueueTurn.gave-up a k p) e = let j = c refl in (j .0, cc)
+  turn-item Enqueuing w out c (EnqueueTurn.did-place i it a f) e = clash (cc)
+  turn-item Dequeuing w out c (DequeueTurn.went-on a k r p q) e = clash (cc)
+  turn-item Dequeuing w out c (DequeueTurn.did-pass a k p) e = clash (cc)
+  turn-item Dequeuing w out c (DequeueTurn.did-take i a f) e = clash (cc)
 
   pub orderly-turn : (step : KindStep I) (t : Table I) → Orderly t → TouchesItsOwn step t → (n : WorkerNo) (out : Turn I) → Turned step t n out → Orderly (then-table t n out)
   orderly-turn step t o law n out d =

@@ -8,6 +8,8 @@ use Rattle.std.specs.declared.option.Option.the-variants.{None, Some}
 use Rattle.tickets.specs.declared.WorkerNo.{WorkerNo}
 use Rattle.ring.specs.declared.table.Worker.{Worker}
 use Rattle.ring.specs.declared.table.Value.the-variants.{Empty}
+use Rattle.ring.specs.declared.table.Side.{Side}
+use Rattle.ring.specs.declared.table.Side.the-variants.{Neither, Enqueuing, Dequeuing}
 use Rattle.ring.specs.declared.table.EngineRow.the-variants.{E1, D1}
 use Rattle.ring.specs.declared.table.Phase.{Phase}
 use Rattle.ring.specs.declared.table.Phase.the-variants.{Idle, Engine, Kind}
@@ -17,7 +19,7 @@ use Rattle.ring.specs.declared.answers.Refusal.the-variants.{Misfit, Nobody, B
 use Rattle.ring.specs.declared.call.Call.{Call}
 use Rattle.ring.specs.declared.call.Call.the-variants.{AssignEnqueue, AssignDequeue, Step}
 use Rattle.ring.specs.Table.{Table, counter-limit, ticket, idle-pair, worker}
-use Rattle.ring.specs.Phases.{Side, engine-side, kind-side, is-idle, neither, enqueuing, dequeuing}
+use Rattle.ring.specs.Phases.{engine-side, kind-side, is-idle}
 use Rattle.ring.specs.Turns.{KindStep}
 use Rattle.ring.specs.Rows.{Outcome, refused, moved, engine-row, kind-row}
 
@@ -45,9 +47,9 @@ module _ {I : Type 0} where
 
   -- the ticket is within the limit, and an enqueue has its item
   abbrev pub fit : Worker I → Side → Bool
-  fit w neither = true
-  fit w enqueuing = ltb (w .ticket .0) counter-limit && carries (w .item)
-  fit w dequeuing = ltb (w .ticket .0) counter-limit
+  fit w Neither = true
+  fit w Enqueuing = ltb (w .ticket .0) counter-limit && carries (w .item)
+  fit w Dequeuing = ltb (w .ticket .0) counter-limit
 
   abbrev pub fitting : Table I → Worker I → Side → Outcome I → Outcome I
   fitting t w s done = cond (fit w s) done (refused t Misfit)

@@ -12,6 +12,8 @@ use Rattle.tickets.specs.declared.WorkerNo.{WorkerNo}
 use Rattle.ring.specs.declared.table.Worker.{Worker}
 use Rattle.ring.specs.declared.table.Value.{Value}
 use Rattle.ring.specs.declared.table.Value.the-variants.{Empty, Token, Item}
+use Rattle.ring.specs.declared.table.Side.{Side}
+use Rattle.ring.specs.declared.table.Side.the-variants.{Neither, Enqueuing, Dequeuing}
 use Rattle.ring.specs.declared.table.EngineRow.the-variants.{E9, D9}
 use Rattle.ring.specs.declared.table.KindRow.{KindRow}
 use Rattle.ring.specs.declared.table.KindRow.the-variants.{E3, D2}
@@ -24,7 +26,7 @@ use Rattle.ring.specs.declared.answers.Refusal.the-variants.{Misfit}
 use Rattle.ring.specs.declared.call.Call.{Call}
 use Rattle.ring.specs.declared.call.Call.the-variants.{AssignEnqueue, AssignDequeue, Step}
 use Rattle.ring.specs.Table.{Table, InRange, laid-out, worker, cell, occupied}
-use Rattle.ring.specs.Phases.{Side, kind-side, side, Outside, neither, enqueuing, dequeuing}
+use Rattle.ring.specs.Phases.{kind-side, side, Outside}
 use Rattle.ring.specs.Fields.{finished}
 use Rattle.ring.specs.Turns.{Turn, KindStep}
 use Rattle.ring.specs.Rows.{Outcome, turned}
@@ -66,20 +68,20 @@ module _ {I : Type 0} where
 
   -- an enqueue works on in the kind's enqueue phases, works on at E9, or is placed with its item and idle
   pub data EnqueueTurn (w : Worker I) (out : Turn I) : Type 0 where
-    went-on : out .answer ≡ Working → Kept w (out .worker) → (k : KindRow) → out .worker .phase ≡ Kind k → kind-side k ≡ enqueuing → EnqueueTurn w out
+    went-on : out .answer ≡ Working → Kept w (out .worker) → (k : KindRow) → out .worker .phase ≡ Kind k → kind-side k ≡ Enqueuing → EnqueueTurn w out
     gave-up : out .answer ≡ Working → Kept w (out .worker) → out .worker .phase ≡ Engine E9 → EnqueueTurn w out
     did-place : (i : I) → w .item ≡ Some i → out .answer ≡ Placed (w .ticket) i → out .worker ≡ finished w → EnqueueTurn w out
 
   -- a dequeue works on in the kind's dequeue phases, is passed over and at D9, or has taken an item and is idle
   pub data DequeueTurn (w : Worker I) (out : Turn I) : Type 0 where
-    went-on : out .answer ≡ Working → Kept w (out .worker) → (k : KindRow) → out .worker .phase ≡ Kind k → kind-side k ≡ dequeuing → DequeueTurn w out
+    went-on : out .answer ≡ Working → Kept w (out .worker) → (k : KindRow) → out .worker .phase ≡ Kind k → kind-side k ≡ Dequeuing → DequeueTurn w out
     did-pass : out .answer ≡ PassedOver (w .ticket) → Kept w (out .worker) → out .worker .phase ≡ Engine D9 → DequeueTurn w out
     did-take : (i : I) → out .answer ≡ Taken (w .ticket) i → out .worker ≡ finished w → DequeueTurn w out
 
   abbrev pub TurnOf : Side → Worker I → Turn I → Type 0
-  TurnOf neither w out = ⊥
-  TurnOf enqueuing w out = EnqueueTurn w out
-  TurnOf dequeuing w out = DequeueTurn w out
+  TurnOf Neither w out = ⊥
+  TurnOf Enqueuing w out = EnqueueTurn w out
+  TurnOf Dequeuing w out = DequeueTurn w out
 
   -- 1. A step touches its worker's record and its ticket's cell only, and depends on these, the worker's number, R and Head alone: KindStep says so.
   -- An enqueue and a dequeue turn as above, and a refusal is 13.

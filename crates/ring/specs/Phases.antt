@@ -1,5 +1,7 @@
 -- Which operation a phase belongs to.
 use mathlib.Core.Bool.{Bool, true, false}
+use Rattle.ring.specs.declared.table.Side.{Side}
+use Rattle.ring.specs.declared.table.Side.the-variants.{Neither, Enqueuing, Dequeuing}
 use Rattle.ring.specs.declared.table.EngineRow.{EngineRow}
 use Rattle.ring.specs.declared.table.EngineRow.the-variants.{E1, E2, E9, E10, D1, D9}
 use Rattle.ring.specs.declared.table.KindRow.{KindRow}
@@ -7,35 +9,32 @@ use Rattle.ring.specs.declared.table.KindRow.the-variants.{E3, E4, E5, E6, E7,
 use Rattle.ring.specs.declared.table.Phase.{Phase}
 use Rattle.ring.specs.declared.table.Phase.the-variants.{Idle, Engine, Kind}
 
-pub data Side : Type 0 where
-  neither enqueuing dequeuing : Side
-
 abbrev pub engine-side : EngineRow → Side
-engine-side E1 = enqueuing
-engine-side E2 = enqueuing
-engine-side E9 = enqueuing
-engine-side E10 = enqueuing
-engine-side D1 = dequeuing
-engine-side D9 = dequeuing
+engine-side E1 = Enqueuing
+engine-side E2 = Enqueuing
+engine-side E9 = Enqueuing
+engine-side E10 = Enqueuing
+engine-side D1 = Dequeuing
+engine-side D9 = Dequeuing
 
 abbrev pub kind-side : KindRow → Side
-kind-side E3 = enqueuing
-kind-side E4 = enqueuing
-kind-side E5 = enqueuing
-kind-side E6 = enqueuing
-kind-side E7 = enqueuing
-kind-side E8 = enqueuing
-kind-side E11 = enqueuing
-kind-side D2 = dequeuing
-kind-side D3 = dequeuing
-kind-side D4 = dequeuing
-kind-side D5 = dequeuing
-kind-side D6 = dequeuing
-kind-side D7 = dequeuing
-kind-side D8 = dequeuing
+kind-side E3 = Enqueuing
+kind-side E4 = Enqueuing
+kind-side E5 = Enqueuing
+kind-side E6 = Enqueuing
+kind-side E7 = Enqueuing
+kind-side E8 = Enqueuing
+kind-side E11 = Enqueuing
+kind-side D2 = Dequeuing
+kind-side D3 = Dequeuing
+kind-side D4 = Dequeuing
+kind-side D5 = Dequeuing
+kind-side D6 = Dequeuing
+kind-side D7 = Dequeuing
+kind-side D8 = Dequeuing
 
 abbrev pub side : Phase → Side
-side Idle = neither
+side Idle = Neither
 side (Engine e) = engine-side e
 side (Kind k) = kind-side k
 

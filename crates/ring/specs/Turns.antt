@@ -2,24 +2,28 @@
 use mathlib.Core.Path.{_≡_}
 use mathlib.Core.Bool.{Bool, true, false, cond, _&&_, not}
 use Prim.Native.Nat.{ℕ}
-use lib.Dec.{eqb}
+use lib.Dec.{ltb, eqb}
 use Rattle.std.specs.declared.result.Result.{Result}
 use Rattle.std.specs.declared.result.Result.the-variants.{Ok, Err}
 use Rattle.std.specs.declared.option.Option.{Option}
 use Rattle.std.specs.declared.option.Option.the-variants.{None, Some}
+use Rattle.tickets.specs.declared.Epoch.{Epoch}
 use Rattle.tickets.specs.declared.WorkerNo.{WorkerNo}
+use Rattle.tickets.specs.Places.{round}
 use Rattle.ring.specs.declared.table.Pair.{Pair}
 use Rattle.ring.specs.declared.table.Cell.{Cell}
 use Rattle.ring.specs.declared.table.Worker.{Worker}
 use Rattle.ring.specs.declared.table.Value.{Value}
 use Rattle.ring.specs.declared.table.Value.the-variants.{Empty, Token, Item}
 use Rattle.ring.specs.declared.table.EngineRow.the-variants.{D9}
+use Rattle.ring.specs.declared.table.KindRow.{KindRow}
 use Rattle.ring.specs.declared.table.Phase.{Phase}
-use Rattle.ring.specs.declared.table.Phase.the-variants.{Engine}
+use Rattle.ring.specs.declared.table.Phase.the-variants.{Idle, Engine, Kind}
 use Rattle.ring.specs.declared.answers.Answer.{Answer}
 use Rattle.ring.specs.declared.answers.Answer.the-variants.{Working, Placed, Taken, PassedOver}
 use Rattle.ring.specs.declared.answers.Refusal.{Refusal}
 use Rattle.ring.specs.declared.answers.Refusal.the-variants.{Misfit}
+use Rattle.ring.specs.Table.{counter-limit}
 use Rattle.ring.specs.Fields.{with-phase, finished, with-cell-value}
 
 -- the worker's record and its ticket's cell anew, with an answer
@@ -96,3 +100,17 @@ module _ {I : Type 0} where
   takes w c Empty = Err Misfit
   takes w c (Token n) = Err Misfit
   takes w c (Item i) = gives (finished w) (with-cell-value c Empty) (Taken (w .ticket) i)
+
+-- the rows of a kind: by Head, the worker's number, its record, its ticket's cell and its ticket's round
+abbrev pub KindRows : Type 0 → Type 0
+KindRows I = ℕ → WorkerNo → Worker I → Cell I → Epoch → KindRow → Result (Turn I) Refusal
+
+module _ {I : Type 0} where
+  abbrev pub in-kind : (KindRow → Result (Turn I) Refusal) → Phase → Result (Turn I) Refusal
+  in-kind f Idle = Err Misfit
+  in-kind f (Engine e) = Err Misfit
+  in-kind f (Kind k) = f k
+
+  -- the step that consists of these rows. A ticket above the limit is refused, so that the epoch after its round can be written
+  abbrev pub step-of : KindRows I → KindStep I
+  step-of rows r head n w c = cond (ltb (w .ticket .0) counter-limit) (in-kind (rows head n w c (round r (w .ticket))) (w .phase)) (Err Misfit)

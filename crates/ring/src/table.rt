@@ -1,4 +1,6 @@
 // Cells and worker records: the caller's memory.
+ghost use mathlib.Core.Path.{_≡_};
+ghost use Rattle.ring.specs.Phases.{engine-side, kind-side};
 use tickets::*;
 
 // The Safe bit of a cell and its epoch, read and swapped as one word.
@@ -20,6 +22,14 @@ pub enum Value<I> {
 pub struct Cell<I> {
     pub pair: Pair,
     pub value: Value<I>,
+}
+
+// The operation that a phase belongs to.
+#[derive(Clone, Copy, PartialEq, Eq, Debug)]
+pub enum Side {
+    Neither,
+    Enqueuing,
+    Dequeuing,
 }
 
 // The rows that the engine performs, for every ring kind.
@@ -50,6 +60,30 @@ pub enum KindRow {
     D6,
     D7,
     D8,
+}
+
+impl EngineRow {
+    pub fn side(self) -> Side
+        ensures { λ r. ⌜ r ≡ engine-side self ⌝ }
+    {
+        match self {
+            EngineRow::E1 | EngineRow::E2 | EngineRow::E9 | EngineRow::E10 => Side::Enqueuing,
+            EngineRow::D1 | EngineRow::D9 => Side::Dequeuing,
+        }
+    }
+}
+
+impl KindRow {
+    pub fn side(self) -> Side
+        ensures { λ r. ⌜ r ≡ kind-side self ⌝ }
+    {
+        match self {
+            KindRow::E3 | KindRow::E4 | KindRow::E5 | KindRow::E6 => Side::Enqueuing,
+            KindRow::E7 | KindRow::E8 | KindRow::E11 => Side::Enqueuing,
+            KindRow::D2 | KindRow::D3 | KindRow::D4 | KindRow::D5 => Side::Dequeuing,
+            KindRow::D6 | KindRow::D7 | KindRow::D8 => Side::Dequeuing,
+        }
+    }
 }
 
 // Where a worker stands: the row that its next step performs.
