@@ -20,14 +20,14 @@ use Rattle.ring.specs.Rows.{Outcome, turned}
 use Rattle.ring.specs.Calls.{row, called, after}
 use Rattle.ring.specs.Ledger.{Ledger, run}
 use Rattle.ring.specs.Books.{Attended, EmptyAttended, BooksClose}
-use Rattle.ring.specs.Laws.{Reached, Turned, EnqueueTurn, DequeueTurn, item-of, then-table, TurnOf, NeitherWay}
+use Rattle.ring.specs.Laws.{Reached, Turned, EnqueueTurn, DequeueTurn, item-of, then-table, TurnOf, TouchesItsOwn, NeitherWay, PlacesFree, TakesHeld, LeavesItems, PassesBarred, StaysBarred}
 use Rattle.ring.proofs.Equals.{clash}
 use Rattle.ring.proofs.Moves.{Move, Moved, move-answer, move-outcome, move-table, gets-enqueue, gets-dequeue, draws-tail, finds-open, finds-closed, finds-room, finds-full, shuts, draws-head, finds-more, finds-empty}
 use Rattle.ring.proofs.Comes.{Comes, call-comes, refuses, moves, turns}
 use Rattle.ring.proofs.Orderly.{Orderly, drawn}
 use Rattle.ring.proofs.Tickets.{Goes, turn-goes}
 use Rattle.ring.proofs.Frames.{move-framed}
-use Rattle.ring.proofs.Lawful.{Lawful}
+use Rattle.ring.proofs.Lawful.{Lawful, OfReached}
 use Rattle.ring.proofs.Induction.{reached-orderly}
 use Rattle.ring.proofs.Attendance.{on-side, at-work-in, working}
 use Rattle.ring.proofs.Books.{Books, booked, held-range, held-attended, books-sound, books-new}
@@ -163,3 +163,12 @@ module _ {I : Type 0} (step : KindStep I) (held : Table I → Ticket → I → T
   pub books-close : BooksClose step
   books-close r w h calls =
       (books-sound barred (run step r w calls .table) (run step r w calls .ledger) (orderly (run step r w calls .table) (run-reached r w h calls)) (books-run r w h calls), empty-run r w h calls)
+
+-- the same from the laws one by one, as a bound on a kind gives them
+pub books-close-by : {I : Type 0} (step : KindStep I) (held : Table I → Ticket → I → Type 0) (barred : Table I → Ticket → Type 0)
+    → ((t : Table I) (k : Ticket) (i : I) → (held t k i → Held t k i) × (Held t k i → held t k i)) → OfReached step (TouchesItsOwn step)
+    → OfReached step (PlacesFree step held barred) → OfReached step (TakesHeld step held barred) → OfReached step (LeavesItems step held barred)
+    → OfReached step (PassesBarred step held barred) → OfReached step (StaysBarred step barred) → BooksClose step
+books-close-by step held barred m a b c d e f =
+    books-close step held barred
+    (record { meaning = m; touches-its-own = a; places-free = b; takes-held = c; leaves-items = d; passes-barred = e; stays-barred = f })

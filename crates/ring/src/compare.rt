@@ -1,6 +1,7 @@
 // What the rows compare, and the records that they start from.
 ghost use mathlib.Core.Path.{_≡_};
 ghost use Rattle.ring.specs.Table.{fresh-cell, idle-worker, occupied};
+ghost use Rattle.ring.specs.Fields.{finished as ended};
 ghost use Rattle.ring.specs.Turns.{same-pair, still, is-empty, is-token};
 use crate::table::*;
 use tickets::*;
@@ -85,5 +86,12 @@ impl<I: Copy> Worker<I> {
             },
             value: Value::Empty,
         }
+    }
+
+    // The record of this worker after its operation has ended.
+    pub fn finished(self) -> Worker<I>
+        ensures { λ r. ⌜ r ≡ ended self ⌝ }
+    {
+        Worker::idle()
     }
 }

@@ -1,0 +1,3 @@
+pub mod PutBack
+pub mod Ways
+pub mod Continues

@@ -1,0 +1,5 @@
+// The calls on a table: laying out, the two assignments and the step.
+pub mod assign;
+mod engine;
+mod guards;
+pub mod step;
