@@ -1,3 +1,5 @@
 pub mod PutBack
 pub mod Ways
 pub mod Continues
+pub mod Opens
+pub mod Fills

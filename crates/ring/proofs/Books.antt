@@ -6,16 +6,18 @@ use mathlib.Core.Logic.{inl, inr}
 use Prim.Native.Nat.{ℕ, _+_, _<_, _≤_}
 use native.Mathlib.Omega.{arith}
 use Rattle.std.proofs.shelf.Tests.{cases-lt}
+use Rattle.std.specs.declared.result.Result.the-variants.{Err}
 use Rattle.tickets.specs.declared.Ticket.{Ticket}
 use Rattle.tickets.specs.declared.WorkerNo.{WorkerNo}
-use Rattle.ring.specs.Table.{Table, InRange, worker, Held}
+use Rattle.ring.specs.declared.answers.Refusal.the-variants.{Misfit}
+use Rattle.ring.specs.Table.{Table, InRange, laid-out, worker, Held}
 use Rattle.ring.specs.Turns.{KindStep}
 use Rattle.ring.specs.Calls.{is-worker}
-use Rattle.ring.specs.Ledger.{Event, Ledger, State, run}
+use Rattle.ring.specs.Ledger.{Event, Ledger, State, blank, run}
 use Rattle.ring.specs.Books.{Sound, times, taking, passing, Attended}
 use Rattle.ring.proofs.Equals.{clash}
 use Rattle.ring.proofs.Orderly.{Orderly}
-use Rattle.ring.proofs.New.{new-worker, new-cell}
+use Rattle.ring.proofs.New.{new-worker, new-cell, orderly-new}
 use Rattle.ring.proofs.Events.{happened-places}
 use Rattle.ring.proofs.Occupied.{occupied-none}
 use Rattle.ring.proofs.Attendance.{Attendance, working}
@@ -92,3 +94,10 @@ module _ {I : Type 0} where
                 passed-barred = λ k e. absurd (omega arith);
               };
         }
+
+-- a new table with a blank ledger
+pub new-sound : {I : Type 0} (r w : ℕ) → InRange r w → Sound (record { table = laid-out {I = I} r w; ledger = blank })
+new-sound {I} r w h =
+    let step : KindStep I = λ _ _ _ _ _. Err Misfit in
+    let barred : Table I → Ticket → Type 0 = λ _ _. Unit {0} in
+    books-sound barred (laid-out r w) blank (orderly-new r w h) (books-new barred step r w h)
