@@ -3,3 +3,4 @@ pub mod Ways
 pub mod Continues
 pub mod Opens
 pub mod Fills
+pub mod Counting

@@ -4,4 +4,6 @@ mod engine;
 mod fill;
 mod guards;
 pub mod lay_out;
+pub mod make;
+pub mod occupied;
 pub mod step;
