@@ -1,0 +1,6 @@
+pub mod PutBack
+pub mod Ways
+pub mod Continues
+pub mod Opens
+pub mod Fills
+pub mod Counting

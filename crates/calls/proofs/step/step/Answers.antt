@@ -1,0 +1,19 @@
+use Rattle.ring.specs.declared.call.Call.the-variants.{Step}
+use Rattle.ring.proofs.BooksClose.{books-close-by}
+use Rattle.calls.specs.Promise.{table, left}
+use Rattle.calls.proofs.Continues.{continues}
+use Rattle.calls.proofs.step.step.Needs as need
+
+pub returns : need.returns
+returns g c =
+    let k = g .K·RingKind in
+    let m = g .K·RingKind·met in
+    record {
+      rows = c .stepped .ensures;
+      books =
+          continues (k .step)
+          (books-close-by (k .step) (k .held) (k .barred) (m .meaning) (m .«touches_its_own») (m .«places_free») (m .«takes_held») (m .«leaves_items») (m .«passes_barred»)
+          (m .«stays_barred»))
+          (table (c .args .control .now) (c .args .cells .now) (c .args .workers .now)) (Step (c .args .number))
+          (left (c .stepped .last .control) (c .stepped .last .cells) (c .stepped .last .workers) (c .stepped .result)) (c .stepped .ensures);
+    }

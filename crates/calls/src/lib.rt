@@ -1,0 +1,9 @@
+// The calls on a table: laying out, the two assignments and the step.
+pub mod assign;
+mod engine;
+mod fill;
+mod guards;
+pub mod lay_out;
+pub mod make;
+pub mod occupied;
+pub mod step;

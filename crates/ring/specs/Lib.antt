@@ -1,0 +1,10 @@
+pub mod Table
+pub mod Answers
+pub mod Phases
+pub mod Fields
+pub mod Turns
+pub mod Rows
+pub mod Calls
+pub mod Ledger
+pub mod Books
+pub mod Laws
