@@ -1,6 +1,7 @@
 -- One field more of a row.
 use mathlib.Core.Path.{_≡_, refl, sym, ap, subst, _∙_}
 use mathlib.Core.Bool.{Bool, true, false, cond, _&&_}
+use mathlib.Core.Logic.{inl, inr}
 use mathlib.Core.List.{List, [], _∷_, _++_, append-assoc, append-nil}
 use Prim.Native.Nat.{ℕ, suc, _+_, _-_, _<_, _≤_}
 use native.Mathlib.Omega.{arith}
@@ -9,14 +10,15 @@ use lib.Dec.{leb, ltb}
 use lib.IntN.{pos}
 use lib.ListN.{length, getD, set, take, drop}
 use Rattle.std.specs.declared.result.Result.{Result}
-use Rattle.std.specs.declared.result.Result.the-variants.{Ok}
+use Rattle.std.specs.declared.result.Result.the-variants.{Ok, Err}
 use Rattle.std.proofs.shelf.Lists.{length-append, length-drop, length-take-le, drop-all, drop-more, set-at, at-drop-more}
 use Rattle.std.proofs.shelf.Parts.{take-putMid}
-use Rattle.std.proofs.shelf.Tests.{cond-false, and-parts, le-ltb, le-leb, lt-leb, leb-true}
+use Rattle.std.proofs.shelf.Tests.{cases-bool, cond-true, cond-false, and-parts, le-ltb, leb-true}
 use Rattle.columns.specs.declared.refusal.WriteRefusal.{WriteRefusal}
+use Rattle.columns.specs.declared.refusal.WriteRefusal.the-variants.{Range}
 use Rattle.columns.specs.declared.row.Field.{Field}
 use Rattle.columns.specs.Number.{digits, text, field}
-use Rattle.columns.specs.Row.{row-width, row-text, row-fits}
+use Rattle.columns.specs.Row.{row-width, row-text, row-fits, row-written}
 use Rattle.columns.specs.Writing.{put, written}
 use Rattle.columns.proofs.Laws.{length-field}
 
@@ -79,3 +81,24 @@ length-row (f ∷ fs) e =
     let p = and-parts (leb (length (text (pos (f .number)))) (f .width)) (row-fits fs) e in
     length-append (field (f .width) (pos (f .number))) (row-text fs)
     ∙ omega (arith, length-field (f .width) (pos (f .number)) (leb-true (length (text (pos (f .number)))) (f .width) (p .0)), length-row fs (p .1))
+
+-- what a row's writer says, where there is room for just the row
+pub row-refused : (fs : List Field) (part after : List ℕ) (e : WriteRefusal) → length part ≡ row-width fs
+    → _≡_ {A = Result (Unit {0}) WriteRefusal × List ℕ} (Err e, after) (row-written fs part) → (e ≡ Range) × (after ≡ part) × (row-fits fs ≡ false)
+row-refused fs part after e room said =
+    let here = said ∙ cond-false (ltb (length part) (row-width fs)) _ _ (le-ltb (length part) (row-width fs) (omega arith)) in
+    elim (cases-bool (row-fits fs)) [
+      | inl fits ↦ let no′ = ap (λ x. x .0) (here ∙ cond-true (row-fits fs) _ _ fits) in let z : _≡_ {A = ℕ} 0 1 = cc in absurd (omega arith)
+      | inr wide ↦ let is = here ∙ cond-false (row-fits fs) _ _ wide in let first = ap (λ x. x .0) is in let same : e ≡ Range = cc in (same, ap (λ x. x .1) is, wide)
+    ]
+
+pub row-done : (fs : List Field) (part after : List ℕ) (u : Unit {0}) → length part ≡ row-width fs
+    → _≡_ {A = Result (Unit {0}) WriteRefusal × List ℕ} (Ok u, after) (row-written fs part) → (after ≡ row-text fs) × (row-fits fs ≡ true)
+row-done fs part after u room said =
+    let here = said ∙ cond-false (ltb (length part) (row-width fs)) _ _ (le-ltb (length part) (row-width fs) (omega arith)) in
+    elim (cases-bool (row-fits fs)) [
+      | inl fits ↦
+          (ap (λ x. x .1) (here ∙ cond-true (row-fits fs) _ _ fits)
+          ∙ (ap (λ x. row-text fs ++ x) (drop-all (length (row-text fs)) part (omega (arith, length-row fs fits))) ∙ append-nil (row-text fs)), fits)
+      | inr wide ↦ let no′ = ap (λ x. x .0) (here ∙ cond-false (row-fits fs) _ _ wide) in let z : _≡_ {A = ℕ} 0 1 = cc in absurd (omega arith)
+    ]
