@@ -1,1 +1,3 @@
 pub mod CallLines
+pub mod Errors
+pub mod Stepping

@@ -1,2 +1,4 @@
 pub mod CallLine
 pub mod LastLine
+pub mod Running
+pub mod Player

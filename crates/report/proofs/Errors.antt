@@ -1,0 +1,19 @@
+-- What an error says of a run.
+use mathlib.Core.Path.{_≡_}
+use mathlib.Core.Bool.{true, false, _&&_}
+use mathlib.Core.List.{List}
+use Prim.Native.Nat.{ℕ}
+use Rattle.std.specs.declared.option.Option.{Option}
+use Rattle.std.specs.declared.result.Result.the-variants.{Err}
+use Rattle.report.specs.declared.error.ReportError.{ReportError}
+use Rattle.report.specs.declared.error.ReportError.the-variants.{Memory, Wide}
+use Rattle.report.specs.Player.{Failed, Printed}
+use Rattle.report.specs.Running.{Running, has-line}
+
+pub print-failed : {I : Type 0} (e : ReportError) (line : Option (List ℕ)) (before after : List ℕ) (s : Running I) → Printed line before after (Err e) → (has-line line ≡ false → s .written ≡ false) → Failed e s
+print-failed Memory line before after s p h = tt
+print-failed Wide line before after s p h = h p
+
+pub failed-on : {I : Type 0} (e : ReportError) (s t : Running I) → Failed e s → (s .written ≡ false → t .written ≡ false) → Failed e t
+failed-on Memory s t f h = tt
+failed-on Wide s t f h = h f
