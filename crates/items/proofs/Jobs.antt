@@ -30,6 +30,7 @@ use Rattle.items.specs.declared.job.Job.the-variants.{Block, Sweep, Flush, Sto
 use Rattle.items.proofs.Parts.{at-ok, whole-two, put-last}
 
 numbered-is : (word : List ℕ) (n : ℕ) (cs : List ℕ) → numbered-text word n ≡ Some cs → (n ≤ number-most) × (word ++ field 9 (pos n) ≡ cs)
+unfolding numbered-text
 numbered-is word n cs e =
     elim (cases-bool (leb n number-most)) [
       | inl is ↦ let f : Some (word ++ field 9 (pos n)) ≡ Some cs = sym (cond-true _ _ _ is) ∙ e in (leb-true n number-most is, cc)
@@ -46,7 +47,7 @@ number-back n h =
     ∙ ap (at-column 7) (unsigned-back 9 0 number-most n (omega arith) (omega arith) (omega arith) h)
 
 pub job-back : (j : Job) (cs : List ℕ) → job-text j ≡ Some cs → job-reading cs ≡ Ok j
-unfolding job-text job-reading
+unfolding job-reading
 job-back (Block n) cs e = let h = numbered-is block-word n cs e in ap job-reading (sym (h .1)) ∙ ap (numbered Block) (number-back n (h .0))
 job-back (Sweep n) cs e = let h = numbered-is sweep-word n cs e in ap job-reading (sym (h .1)) ∙ ap (numbered Sweep) (number-back n (h .0))
 job-back Flush cs e = let f : flush-word ++ no-number ≡ cs = cc in ap job-reading (sym f)
@@ -65,6 +66,7 @@ bare-ok job j rest e =
 
 -- a word with a number, read
 numbered-only : (word rest : List ℕ) (job : ℕ → Job) (j : Job) → length rest ≡ 9 → ((n : ℕ) → job-text (job n) ≡ numbered-text word n) → numbered job (number-reading rest) ≡ Ok j → job-text j ≡ Some (word ++ rest)
+unfolding numbered-text
 numbered-only word rest job j n t e =
     let h = numbered-ok job (number-reading rest) j e in
     let k = unsigned-only 0 number-most rest (h .0) (at-ok 7 _ _ (h .1)) in
@@ -83,7 +85,6 @@ tried word known rest j x y hx hy e =
     ]
 
 job-of-only : (word rest : List ℕ) (j : Job) → length rest ≡ 9 → job-of word rest ≡ Ok j → job-text j ≡ Some (word ++ rest)
-unfolding job-text
 job-of-only word rest j n e =
     tried word block-word rest j _ _ (numbered-only block-word rest Block j n (λ m. refl))
     (tried word sweep-word rest j _ _ (numbered-only sweep-word rest Sweep j n (λ m. refl))
@@ -96,7 +97,6 @@ job-only cs j n e =
     job-of-only (take 6 cs) (take 9 (drop 6 cs)) j (length-take-le 9 (drop 6 cs) (omega (arith, length-drop 6 cs))) e ∙ ap (λ l. Some l) (whole-two cs 6 9 n)
 
 pub job-wide : (j : Job) (cs : List ℕ) → job-text j ≡ Some cs → length cs ≡ 15
-unfolding job-text
 job-wide (Block n) cs e = let h = numbered-is block-word n cs e in ap length (sym (h .1)) ∙ omega (arith, number-length n (h .0))
 job-wide (Sweep n) cs e = let h = numbered-is sweep-word n cs e in ap length (sym (h .1)) ∙ omega (arith, number-length n (h .0))
 job-wide Flush cs e = let f : flush-word ++ no-number ≡ cs = cc in ap length (sym f)
@@ -106,7 +106,6 @@ printed-word : (word rest cs : List ℕ) → word ++ rest ≡ cs → Printed wor
 printed-word word rest cs e p q = subst Printed e (all-append _ word rest p q)
 
 pub job-printed : (j : Job) (cs : List ℕ) → job-text j ≡ Some cs → Printed cs
-unfolding job-text
 job-printed (Block n) cs e = printed-word block-word _ cs (numbered-is block-word n cs e .1) (search arith) (printed-field 9 (pos n))
 job-printed (Sweep n) cs e = printed-word sweep-word _ cs (numbered-is sweep-word n cs e .1) (search arith) (printed-field 9 (pos n))
 job-printed Flush cs e = printed-word flush-word no-number cs (cc) (search arith) (printed-blanks 9)
@@ -118,11 +117,13 @@ pub number-fits : (n : ℕ) → length (text (pos n)) ≤ 9 → n ≤ number-mos
 number-fits n h = omega (arith, text-below 9 n h)
 
 pub numbered-put : (word old last : List ℕ) (n : ℕ) → length word ≡ 6 → length old ≡ 9 → last ≡ field 9 (pos n) → length (text (pos n)) ≤ 9 → Ok (putMid 6 9 (word ++ old) last) ≡ okOr (numbered-text word n) Range
+unfolding numbered-text
 numbered-put word old last n e o f h =
     ap (λ l. Ok l) (put-last word old last 6 9 e o ∙ ap (λ l. word ++ l) f)
     ∙ ap (λ t. okOr t Range) (sym (cond-true (leb n number-most) (Some (word ++ field 9 (pos n))) None (le-leb n number-most (number-fits n h))))
 
 pub numbered-past : (word : List ℕ) (n : ℕ) → 9 < length (text (pos n)) → okOr (numbered-text word n) Range ≡ Err Range
+unfolding numbered-text
 numbered-past word n h =
     ap (λ t. okOr t Range)
     (cond-false (leb n number-most) (Some (word ++ field 9 (pos n))) None

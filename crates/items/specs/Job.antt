@@ -49,11 +49,11 @@ stop-word = codes "  stop"
 abbrev pub no-number : List ℕ
 no-number = replicate number-width 32
 
-abbrev pub numbered-text : List ℕ → ℕ → Option (List ℕ)
+unfoldable pub numbered-text : List ℕ → ℕ → Option (List ℕ)
 numbered-text word n = cond (leb n number-most) (Some (word ++ field number-width (pos n))) None
 
 -- what a job writes, where its number is in range
-unfoldable pub job-text : Job → Option (List ℕ)
+abbrev pub job-text : Job → Option (List ℕ)
 job-text (Block n) = numbered-text block-word n
 job-text (Sweep n) = numbered-text sweep-word n
 job-text Flush = Some (flush-word ++ no-number)
