@@ -82,3 +82,9 @@ module _ {I : Type 0} (text : I → Option (List ℕ)) (reading : List ℕ → R
   abbrev pub all-ordered : List PlainOrder → Running I → Running I
   all-ordered [] s = s
   all-ordered (o ∷ os) s = all-ordered os (ordered o s)
+
+-- how many calls an order makes at most
+abbrev pub most-calls : PlainOrder → ℕ
+most-calls (enqueue w cs) = 1
+most-calls (dequeue w) = 1
+most-calls (steps w n) = n

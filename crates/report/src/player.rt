@@ -8,12 +8,14 @@ ghost use Rattle.ring.specs.Calls.{called};
 ghost use Rattle.calls.specs.Promise.{table};
 ghost use Rattle.report.specs.CallLine.{Reply};
 ghost use Rattle.report.specs.Player.{Printed, Ran, running};
-ghost use Rattle.report.specs.Running.{caller, noted, performed, printed, stepping, stops};
+ghost use Rattle.report.specs.Running.{caller, most-calls, ordered, performed, printed, stepping, stops};
+ghost use Rattle.play.specs.Orders.{plain};
 use crate::call_line::*;
 use crate::error::*;
 use calls::make::make_call;
 use columns::WriteRefusal;
 use items::ItemKind;
+use play::order::Order;
 use ring::answers::*;
 use ring::call::Call;
 use ring::control::Control;
@@ -77,6 +79,26 @@ fn perform<I: ItemKind, K: RingKind<I>>(
     Ok(stops_at(reply))
 }
 
+// Makes an assignment.
+fn assign<I: ItemKind, K: RingKind<I>>(
+    kind: &K,
+    control: &mut Control,
+    cells: &mut [Cell<I>],
+    workers: &mut [Worker<I>],
+    calls: &mut u64,
+    out: &mut Vec<u8>,
+    call: Call<I>,
+) -> Result<(), ReportError>
+    requires { ⌜ now calls < 1000000000 ⌝ }
+    ensures ran { λ r. ⌜ Ran r (λ _. running (now (control .exit)) (now (cells .exit)) (now (workers .exit)) (now (calls .exit)) (vec-items (now (out .exit))) ≡ performed (I·ItemKind .text) (K·RingKind .step) (running (now (control .entry)) (now (cells .entry)) (now (workers .entry)) (now (calls .entry)) (vec-items (now (out .entry)))) call) (performed (I·ItemKind .text) (K·RingKind .step) (running (now (control .entry)) (now (cells .entry)) (now (workers .entry)) (now (calls .entry)) (vec-items (now (out .entry)))) call) ⌝ }
+    ensures few { λ r. ⌜ made r (λ _. now (calls .exit) ≤ now (calls .entry) + 1) ⌝ }
+{
+    match perform(kind, control, cells, workers, calls, out, call) {
+        Ok(_) => Ok(()),
+        Err(error) => Err(error),
+    }
+}
+
 // Makes at most `count` steps of a worker.
 fn step_on<I: ItemKind, K: RingKind<I>>(
     kind: &K,
@@ -100,4 +122,46 @@ fn step_on<I: ItemKind, K: RingKind<I>>(
         }
     }
     Ok(())
+}
+
+// Plays one order.
+fn play_order<I: ItemKind, K: RingKind<I>>(
+    kind: &K,
+    control: &mut Control,
+    cells: &mut [Cell<I>],
+    workers: &mut [Worker<I>],
+    calls: &mut u64,
+    out: &mut Vec<u8>,
+    order: Order,
+) -> Result<(), ReportError>
+    requires { ⌜ now calls + most-calls (plain order) < 1000000000 ⌝ }
+    ensures ran { λ r. ⌜ Ran r (λ _. running (now (control .exit)) (now (cells .exit)) (now (workers .exit)) (now (calls .exit)) (vec-items (now (out .exit))) ≡ ordered (I·ItemKind .text) (I·ItemKind .reading) (K·RingKind .step) (plain (order .entry)) (running (now (control .entry)) (now (cells .entry)) (now (workers .entry)) (now (calls .entry)) (vec-items (now (out .entry))))) (ordered (I·ItemKind .text) (I·ItemKind .reading) (K·RingKind .step) (plain (order .entry)) (running (now (control .entry)) (now (cells .entry)) (now (workers .entry)) (now (calls .entry)) (vec-items (now (out .entry))))) ⌝ }
+    ensures few { λ r. ⌜ made r (λ _. now (calls .exit) ≤ now (calls .entry) + most-calls (plain (order .entry))) ⌝ }
+{
+    match order {
+        Order::Enqueue { worker, columns } => match I::read(columns) {
+            Ok(item) => assign(
+                kind,
+                control,
+                cells,
+                workers,
+                calls,
+                out,
+                Call::AssignEnqueue(worker, item),
+            ),
+            Err(_) => Ok(()),
+        },
+        Order::Dequeue { worker } => assign(
+            kind,
+            control,
+            cells,
+            workers,
+            calls,
+            out,
+            Call::AssignDequeue(worker),
+        ),
+        Order::Steps { worker, count } => step_on(
+            kind, control, cells, workers, calls, out, worker, count,
+        ),
+    }
 }
