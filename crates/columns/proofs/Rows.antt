@@ -97,8 +97,10 @@ pub row-done : (fs : List Field) (part after : List ℕ) (u : Unit {0}) → leng
 row-done fs part after u room said =
     let here = said ∙ cond-false (ltb (length part) (row-width fs)) _ _ (le-ltb (length part) (row-width fs) (omega arith)) in
     elim (cases-bool (row-fits fs)) [
-      | inl fits ↦
-          (ap (λ x. x .1) (here ∙ cond-true (row-fits fs) _ _ fits)
-          ∙ (ap (λ x. row-text fs ++ x) (drop-all (length (row-text fs)) part (omega (arith, length-row fs fits))) ∙ append-nil (row-text fs)), fits)
+      | inl fits ↦ (
+        ap (λ x. x .1) (here ∙ cond-true (row-fits fs) _ _ fits)
+            ∙ (ap (λ x. row-text fs ++ x) (drop-all (length (row-text fs)) part (omega (arith, length-row fs fits))) ∙ append-nil (row-text fs)),
+        fits,
+      )
       | inr wide ↦ let no′ = ap (λ x. x .0) (here ∙ cond-false (row-fits fs) _ _ wide) in let z : _≡_ {A = ℕ} 0 1 = cc in absurd (omega arith)
     ]

@@ -2,3 +2,4 @@ pub mod CallLine
 pub mod LastLine
 pub mod Running
 pub mod Player
+pub mod Whole

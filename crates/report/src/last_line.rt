@@ -17,11 +17,7 @@ fn flag(on: bool) -> u64
 }
 
 // Writes `=`, Head, Tail, Closed as 0 or 1, the number of occupied cells, and an LF.
-pub fn write_last(
-    buffer: &mut [u8],
-    control: &Control,
-    occupied: usize,
-) -> Result<(), WriteRefusal>
+pub fn write_last(buffer: &mut [u8], control: &Control, occupied: usize) -> Result<(), WriteRefusal>
     ensures { λ r. ⌜ (r, now (buffer .exit)) ≡ line-written last-mark (last-fields (now (control .entry) .head) (now (control .entry) .tail) (now (control .entry) .closed) occupied) (now (buffer .entry)) ⌝ }
 {
     let fields = [

@@ -3,3 +3,4 @@ pub mod call_line;
 pub mod error;
 pub mod last_line;
 mod player;
+mod whole;

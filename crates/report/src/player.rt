@@ -7,14 +7,19 @@ ghost use Rattle.std.specs.Of.Vec.{vec-items};
 ghost use Rattle.ring.specs.Calls.{called};
 ghost use Rattle.calls.specs.Promise.{table};
 ghost use Rattle.report.specs.CallLine.{Reply};
-ghost use Rattle.report.specs.Player.{Printed, Ran, running};
-ghost use Rattle.report.specs.Running.{caller, most-calls, ordered, performed, printed, stepping, stops};
-ghost use Rattle.play.specs.Orders.{plain};
+ghost use Rattle.report.specs.Player.{Body, Printed, Ran, running};
+ghost use Rattle.report.specs.Running.{all-ordered, caller, most-calls, ordered, performed, printed, stepping, stops};
+ghost use Rattle.play.specs.Orders.{PlainOrder, plain};
+ghost use Rattle.play.specs.Text.{OrdersFit, orders-text};
+ghost use lib.ListN.{length};
+ghost use mathlib.Core.List.{List};
 use crate::call_line::*;
 use crate::error::*;
 use calls::make::make_call;
 use columns::WriteRefusal;
 use items::ItemKind;
+use play::header::ItemChoice;
+use play::next::next_order;
 use play::order::Order;
 use ring::answers::*;
 use ring::call::Call;
@@ -117,7 +122,15 @@ fn step_on<I: ItemKind, K: RingKind<I>>(
     let mut left = count;
     while left > 0 {
         left -= 1;
-        if perform(kind, control, cells, workers, calls, out, Call::Step(worker))? {
+        if perform(
+            kind,
+            control,
+            cells,
+            workers,
+            calls,
+            out,
+            Call::Step(worker),
+        )? {
             return Ok(());
         }
     }
@@ -161,7 +174,36 @@ fn play_order<I: ItemKind, K: RingKind<I>>(
             Call::AssignDequeue(worker),
         ),
         Order::Steps { worker, count } => step_on(
-            kind, control, cells, workers, calls, out, worker, count,
+            kind,
+            control,
+            cells,
+            workers,
+            calls,
+            out,
+            worker,
+            count,
         ),
     }
+}
+
+// Plays the orders of a body, one after the other.
+pub(crate) fn play_body<I: ItemKind, K: RingKind<I>>(
+    kind: &K,
+    control: &mut Control,
+    cells: &mut [Cell<I>],
+    workers: &mut [Worker<I>],
+    out: &mut Vec<u8>,
+    items: ItemChoice,
+    body: &[u8],
+) -> Result<(), ReportError>
+    requires { ⌜ length (now body) ≤ 60000 ⌝ }
+    ensures { λ r. ⌜ ((os : List PlainOrder) → now (body .entry) ≡ orders-text os → OrdersFit items os → Body r (now (control .exit)) (now (cells .exit)) (now (workers .exit)) (vec-items (now (out .exit))) (all-ordered (I·ItemKind .text) (I·ItemKind .reading) (K·RingKind .step) os (running (now (control .entry)) (now (cells .entry)) (now (workers .entry)) 0 (vec-items (now (out .entry)))))) ⌝ }
+{
+    let mut calls = 0;
+    let mut rest = body;
+    while let Some(next) = next_order(items, rest) {
+        play_order(kind, control, cells, workers, &mut calls, out, next.order)?;
+        rest = next.rest;
+    }
+    Ok(())
 }

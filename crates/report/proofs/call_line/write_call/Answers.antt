@@ -36,8 +36,8 @@ returns-in-Break-write-row g c =
     let item = c .in-Continue-columns .columns in
     let room : length (take 29 buffer) ≡ 29 = length-take-le 29 buffer (omega arith) in
     let are = ap (λ n. fields (c .args .call) n (c .from-2 .result) (c .ticket-of .result)) (c .from .ensures)
-      ∙ ap (λ n. fields (c .args .call) (c .args .worker .0) n (c .ticket-of .result)) (c .from-2 .ensures ∙ c .number-of .ensures)
-      ∙ ap (λ n. fields (c .args .call) (c .args .worker .0) (reply-number r) n) (c .ticket-of .ensures) in
+    ∙ ap (λ n. fields (c .args .call) (c .args .worker .0) n (c .ticket-of .result)) (c .from-2 .ensures ∙ c .number-of .ensures)
+    ∙ ap (λ n. fields (c .args .call) (c .args .worker .0) (reply-number r) n) (c .ticket-of .ensures) in
     let columns = chosen (shown text (reply-item r)) Range item (ap (λ x. okOr (shown text x) Range) (sym (c .item-of .ensures)) ∙ sym (c .item-columns .ensures) ∙ c .in-Continue-columns .was tt) in
     let wide = cond-false (ltb (length buffer) 45) (Err Narrow, buffer) (line-put (call-line text (c .args .call) (c .args .worker) r) buffer) (le-ltb (length buffer) 45 (omega arith)) in
     let p = err-from-errBy (c .from-residual-in-Break-write-row .result) (c .from-residual-in-Break-write-row .ensures .1) in
@@ -59,8 +59,8 @@ returns g c =
     let item = c .in-Continue-columns .columns in
     let room : length (take 29 buffer) ≡ 29 = length-take-le 29 buffer (omega arith) in
     let are = ap (λ n. fields (c .args .call) n (c .from-2 .result) (c .ticket-of .result)) (c .from .ensures)
-      ∙ ap (λ n. fields (c .args .call) (c .args .worker .0) n (c .ticket-of .result)) (c .from-2 .ensures ∙ c .number-of .ensures)
-      ∙ ap (λ n. fields (c .args .call) (c .args .worker .0) (reply-number r) n) (c .ticket-of .ensures) in
+    ∙ ap (λ n. fields (c .args .call) (c .args .worker .0) n (c .ticket-of .result)) (c .from-2 .ensures ∙ c .number-of .ensures)
+    ∙ ap (λ n. fields (c .args .call) (c .args .worker .0) (reply-number r) n) (c .ticket-of .ensures) in
     let columns = chosen (shown text (reply-item r)) Range item (ap (λ x. okOr (shown text x) Range) (sym (c .item-of .ensures)) ∙ sym (c .item-columns .ensures) ∙ c .in-Continue-columns .was tt) in
     let wide = cond-false (ltb (length buffer) 45) (Err Narrow, buffer) (line-put (call-line text (c .args .call) (c .args .worker) r) buffer) (le-ltb (length buffer) 45 (omega arith)) in
     let was = c .in-Continue-write-row .was tt in

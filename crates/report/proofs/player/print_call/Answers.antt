@@ -18,8 +18,9 @@ returns g c =
     let line = c .write-call .last .buffer in
     let before = vec-items (c .args .out .now) in
     let is = line-done (call-line text (c .args .call) (c .args .worker) (c .args .reply)) (replicate 45 0) line (c .in-rest .field-0) refl
-      (line-wide text (g .I·ItemKind·met .wide) (c .args .call) (c .args .worker) (c .args .reply)) (ap (λ x. (x, line)) (sym (c .in-rest .is)) ∙ c .write-call .ensures) in
+    (line-wide text (g .I·ItemKind·met .wide) (c .args .call) (c .args .worker) (c .args .reply)) (ap (λ x. (x, line)) (sym (c .in-rest .is)) ∙ c .write-call .ensures) in
     let shows = cond-true (is-printed (c .args .reply)) _ _ (sym (c .prints .ensures) ∙ c .if-not-prints .left) ∙ is in
-    let was = c .in-Continue-extend-from-slice .was tt in
-    (ap has-line shows,
-      c .extend-from-slice .ensures .items ∙ ap (λ r. cond (isOk r) (before ++ line) before) was ∙ ap (λ x. before ++ line-bytes x) (sym shows))
+    let was = c .in-Continue-extend-from-slice .was tt in (
+      ap has-line shows,
+      c .extend-from-slice .ensures .items ∙ ap (λ r. cond (isOk r) (before ++ line) before) was ∙ ap (λ x. before ++ line-bytes x) (sym shows),
+    )

@@ -21,8 +21,8 @@ returns-in-Break-perform g c =
     let s0 = running (c .args .control .now) (c .args .cells .now) (c .args .workers .now) (c .args .calls .now) (vec-items (c .args .out .now)) in
     record {
       ran = rw (p .1, p .2)
-        (failed-on (c .in-Break-perform .field-0 .0) (performed text step s (Step w)) (stepping text step w (c .args .count) s0) (c .in-Break-perform .ensures tt)
-        (λ e. ap (λ (x : Running (g .I .Denot)). x .written) (sym (c .loop-left .inv .2)) ∙ steps-fail text step w (c .loop-left .left) s (c .loop-left-test .taken) e));
+          (failed-on (c .in-Break-perform .field-0 .0) (performed text step s (Step w)) (stepping text step w (c .args .count) s0) (c .in-Break-perform .ensures tt)
+          (λ e. ap (λ (x : Running (g .I .Denot)). x .written) (sym (c .loop-left .inv .2)) ∙ steps-fail text step w (c .loop-left .left) s (c .loop-left-test .taken) e));
       few = made-from-err (c .from-residual .result) _ (c .from-residual .ensures .0);
     }
 
@@ -42,10 +42,11 @@ loop-left-again g c =
     let text = g .I·ItemKind .text in
     let step = g .K·RingKind .step in
     let s = running (c .loop-left .control) (c .loop-left .cells) (c .loop-left .workers) (c .loop-left .calls) (vec-items (c .loop-left .out)) in
-    let said = c .in-Continue-perform .ensures tt in
-    (omega (arith, c .loop-left .inv .0),
+    let said = c .in-Continue-perform .ensures tt in (
+      omega (arith, c .loop-left .inv .0),
       omega (arith, ap (λ (x : Running (g .I .Denot)). x .calls) (said .0), c .loop-left .inv .1, c .loop-left-test .taken),
-      ap (stepping text step (c .args .worker) (c .loop-left .left - 1)) (said .0) ∙ sym (steps-on text step (c .args .worker) (c .loop-left .left) s (c .loop-left-test .taken) (sym (said .1) ∙ c .if-branch .left)) ∙ c .loop-left .inv .2)
+      ap (stepping text step (c .args .worker) (c .loop-left .left - 1)) (said .0) ∙ sym (steps-on text step (c .args .worker) (c .loop-left .left) s (c .loop-left-test .taken) (sym (said .1) ∙ c .if-branch .left)) ∙ c .loop-left .inv .2,
+    )
 
 pub returns : need.returns
 returns g c =

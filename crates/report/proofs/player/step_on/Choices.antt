@@ -11,7 +11,7 @@ Inv-loop-left g l =
     (l .left ≤ l .count)
     × (l .calls + l .left ≤ l .entry .calls + l .count)
     × (stepping (g .I·ItemKind .text) (g .K·RingKind .step) (l .worker) (l .left) (running (l .control) (l .cells) (l .workers) (l .calls) (vec-items (l .out)))
-      ≡ stepping (g .I·ItemKind .text) (g .K·RingKind .step) (l .worker) (l .count) (running (l .entry .control) (l .entry .cells) (l .entry .workers) (l .entry .calls) (vec-items (l .entry .out))))
+    ≡ stepping (g .I·ItemKind .text) (g .K·RingKind .step) (l .worker) (l .count) (running (l .entry .control) (l .entry .cells) (l .entry .workers) (l .entry .calls) (vec-items (l .entry .out))))
 
 abbrev pub μ-loop-left : given.MeasureT-loop-left
 μ-loop-left g l = l .left
