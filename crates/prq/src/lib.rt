@@ -13,12 +13,9 @@ use ring::kind::*;
 use ring::table::*;
 use ring::theorem::books_close;
 use tickets::*;
-use turns::found::Found;
+use turns::found::*;
 
 pub struct Prq;
-
-// The greatest ticket.
-const LAST: u64 = 999_999_999_999;
 
 pub impl<I: Copy> RingKind<I> for Prq as PrqKind {
     ghost step = { prq-step };
@@ -37,23 +34,14 @@ pub impl<I: Copy> RingKind<I> for Prq as PrqKind {
     ) -> Result<Answer<I>, Refusal>
         ensures { λ r. ⌜ Performed (prq-step ring head number (now (worker .entry)) (now (cell .entry))) (now (worker .entry)) (now (cell .entry)) r (now (worker .exit)) (now (cell .exit)) ⌝ }
     {
-        if worker.ticket.0 > LAST {
+        if worker.ticket.0 > LAST_TICKET {
             return Err(Refusal::Misfit);
         }
         let Phase::Kind(row) = worker.phase else {
             return Err(Refusal::Misfit);
         };
-        let round = worker.ticket.round(ring);
-        take_turn(
-            Found {
-                head,
-                number,
-                round,
-            },
-            row,
-            worker,
-            cell,
-        )
+        let found = Found::of(ring, head, number, worker);
+        take_turn(found, row, worker, cell)
     }
 }
 

@@ -1,6 +1,6 @@
 // The rows of PRQ. A worker at each of them reads or swaps one word: the cell's pair, the cell's value, or Head.
 ghost use mathlib.Core.Path.{_≡_};
-ghost use Rattle.ring.specs.declared.table.KindRow.the-variants.{E4, E5, E6, E7, E8, E11, D4, D6, D7, D8};
+ghost use Rattle.ring.specs.declared.table.KindRow.the-variants.{E4, E6, E7, E8, E11, D4, D6, D7, D8};
 ghost use Rattle.turns.specs.Found.{RowDone};
 ghost use Rattle.prq.specs.Rows.{prq-rows, by-value};
 use ring::answers::*;
@@ -22,16 +22,6 @@ fn e4<I: Copy>(found: Found, worker: &mut Worker<I>, cell: &Cell<I>) -> Result<A
         KindRow::E5
     };
     read_value(worker, cell, Phase::Kind(next))
-}
-
-// E5: Head is read.
-fn e5<I: Copy>(found: Found, worker: &mut Worker<I>, cell: &Cell<I>) -> Result<Answer<I>, Refusal>
-    ensures { λ r. ⌜ RowDone prq-rows found E5 (now (worker .entry)) (now (cell .entry)) r (now (worker .exit)) (now (cell .entry)) ⌝ }
-{
-    if found.head <= worker.ticket.0 {
-        return go_on(worker, Phase::Kind(KindRow::E6));
-    }
-    go_on(worker, Phase::Engine(EngineRow::E9))
 }
 
 // E6: the worker's token is put where the value is still as read.
@@ -174,7 +164,7 @@ pub fn take_turn<I: Copy>(
     match row {
         KindRow::E3 => read_pair(worker, cell, Phase::Kind(KindRow::E4)),
         KindRow::E4 => e4(found, worker, cell),
-        KindRow::E5 => e5(found, worker, cell),
+        KindRow::E5 => read_head(worker, found.head),
         KindRow::E6 => e6(found, worker, cell),
         KindRow::E7 => e7(found, worker, cell),
         KindRow::E8 => e8(found, worker, cell),

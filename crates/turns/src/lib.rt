@@ -2,10 +2,13 @@
 pub mod found;
 
 ghost use mathlib.Core.Path.{_≡_};
+ghost use mathlib.Core.Bool.{cond};
+ghost use lib.Dec.{leb};
 ghost use Rattle.std.specs.declared.result.Result.the-variants.{Ok};
 ghost use Rattle.ring.specs.declared.answers.Answer.the-variants.{Working, PassedOver};
-ghost use Rattle.ring.specs.declared.table.EngineRow.the-variants.{D9};
-ghost use Rattle.ring.specs.declared.table.Phase.the-variants.{Engine};
+ghost use Rattle.ring.specs.declared.table.EngineRow.the-variants.{E9, D9};
+ghost use Rattle.ring.specs.declared.table.KindRow.the-variants.{E6};
+ghost use Rattle.ring.specs.declared.table.Phase.the-variants.{Engine, Kind};
 ghost use Rattle.ring.specs.Fields.{with-phase, with-pair, with-value, with-cell-value, with-cell-pair};
 ghost use Rattle.ring.specs.Turns.{Performed, places, takes};
 use ring::answers::*;
@@ -53,6 +56,17 @@ pub fn read_value<I: Copy>(
         ..*worker
     };
     Ok(Answer::Working)
+}
+
+// The worker reads Head: an enqueue on a cell that is not Safe goes on if Head has not passed its ticket.
+pub fn read_head<I: Copy>(worker: &mut Worker<I>, head: u64) -> Result<Answer<I>, Refusal>
+    ensures answer { λ r. ⌜ r ≡ Ok Working ⌝ }
+    ensures record { λ _. ⌜ now (worker .exit) ≡ with-phase (now (worker .entry)) (cond (leb head (now (worker .entry) .ticket .0)) (Kind E6) (Engine E9)) ⌝ }
+{
+    if head <= worker.ticket.0 {
+        return go_on(worker, Phase::Kind(KindRow::E6));
+    }
+    go_on(worker, Phase::Engine(EngineRow::E9))
 }
 
 // The worker's ticket is passed over.
