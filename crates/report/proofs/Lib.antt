@@ -5,3 +5,4 @@ pub mod Orders
 pub mod LastLines
 pub mod LaidOut
 pub mod Finished
+pub mod History

@@ -3,3 +3,4 @@ pub mod LastLine
 pub mod Running
 pub mod Player
 pub mod Whole
+pub mod RunBooks

@@ -9,6 +9,7 @@ ghost use Rattle.play.specs.Orders.{PlainOrder};
 ghost use Rattle.play.specs.Text.{OrdersFit, orders-text};
 ghost use Rattle.report.specs.Player.{LastPrinted};
 ghost use Rattle.report.specs.LastLine.{last-fields};
+ghost use Rattle.report.specs.RunBooks.{RunBooks};
 ghost use Rattle.report.specs.Whole.{Reported, whole-run};
 use crate::error::*;
 use crate::last_line::*;
@@ -45,7 +46,8 @@ pub(crate) fn play_table<I: ItemKind, K: RingKind<I>>(
 ) -> Result<Vec<u8>, ReportError>
     requires range { ⌜ InRange (length (now cells)) (length (now workers)) ⌝ }
     requires short { ⌜ length (now body) ≤ 60000 ⌝ }
-    ensures { λ r. ⌜ ((os : List PlainOrder) → now (body .entry) ≡ orders-text os → OrdersFit items os → Reported r (whole-run (I·ItemKind .text) (I·ItemKind .reading) (K·RingKind .step) (length (now (cells .entry))) (length (now (workers .entry))) os)) ⌝ }
+    ensures text { λ r. ⌜ ((os : List PlainOrder) → now (body .entry) ≡ orders-text os → OrdersFit items os → Reported r (whole-run (I·ItemKind .text) (I·ItemKind .reading) (K·RingKind .step) (length (now (cells .entry))) (length (now (workers .entry))) os)) ⌝ }
+    ensures books { λ _. ⌜ ((os : List PlainOrder) → RunBooks (I·ItemKind .text) (I·ItemKind .reading) (K·RingKind .step) (length (now (cells .entry))) (length (now (workers .entry))) os) ⌝ }
 {
     let mut control = match lay_out(cells, workers) {
         Ok(laid) => laid,
