@@ -6,3 +6,4 @@ pub mod LastLines
 pub mod LaidOut
 pub mod Finished
 pub mod History
+pub mod ShortPlay

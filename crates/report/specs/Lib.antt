@@ -4,3 +4,4 @@ pub mod Running
 pub mod Player
 pub mod Whole
 pub mod RunBooks
+pub mod Report

@@ -3,4 +3,5 @@ pub mod call_line;
 pub mod error;
 pub mod last_line;
 mod player;
+pub mod report;
 mod whole;
