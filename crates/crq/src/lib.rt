@@ -2,10 +2,13 @@
 mod rows;
 
 ghost use denote.Ref.{now};
+ghost use mathlib.Core.Path.{_≡_};
+ghost use lib.ListN.{length};
 ghost use Rattle.ring.specs.Table.{Held};
 ghost use Rattle.ring.specs.Turns.{Performed};
 ghost use Rattle.ring.specs.Books.{BooksClose, BooksFill};
 ghost use Rattle.crq.specs.Rows.{crq-step};
+ghost use Rattle.crq.specs.Worked.{crq-runs, CrqRunsStand};
 ghost use Rattle.crq.specs.Barred.{crq-barred};
 use crate::rows::take_turn;
 use ring::answers::*;
@@ -51,4 +54,12 @@ pub fn crq_books_close<I: Copy>() -> u8
     ensures fill { λ _. ⌜ BooksFill {I = I} crq-step ⌝ }
 {
     books_close::<I, Crq>()
+}
+
+// The worked runs of CRQ come out as told. There are this many.
+pub fn crq_runs_stand<I: Copy>() -> u8
+    ensures runs { λ _. ⌜ CrqRunsStand I ⌝ }
+    ensures count { λ r. ⌜ (r ≡ length (crq-runs {I = I})) ⌝ }
+{
+    1
 }

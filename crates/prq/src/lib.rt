@@ -2,10 +2,13 @@
 mod rows;
 
 ghost use denote.Ref.{now};
+ghost use mathlib.Core.Path.{_≡_};
+ghost use lib.ListN.{length};
 ghost use Rattle.ring.specs.Table.{Held};
 ghost use Rattle.ring.specs.Turns.{Performed};
 ghost use Rattle.ring.specs.Books.{BooksClose, BooksFill};
 ghost use Rattle.prq.specs.Rows.{prq-step};
+ghost use Rattle.prq.specs.Worked.{prq-runs, PrqRunsStand};
 ghost use Rattle.prq.specs.Barred.{prq-barred};
 use crate::rows::take_turn;
 use ring::answers::*;
@@ -51,4 +54,12 @@ pub fn prq_books_close<I: Copy>() -> u8
     ensures fill { λ _. ⌜ BooksFill {I = I} prq-step ⌝ }
 {
     books_close::<I, Prq>()
+}
+
+// The worked runs of PRQ come out as told. There are this many.
+pub fn prq_runs_stand<I: Copy>() -> u8
+    ensures runs { λ _. ⌜ PrqRunsStand I ⌝ }
+    ensures count { λ r. ⌜ ((a b c : I) → r ≡ length (prq-runs a b c)) ⌝ }
+{
+    7
 }

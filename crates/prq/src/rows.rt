@@ -97,13 +97,14 @@ fn by_value<I: Copy>(value: Value<I>, exact: bool) -> KindRow
 fn d4<I: Copy>(found: Found, worker: &mut Worker<I>, cell: &Cell<I>) -> Result<Answer<I>, Refusal>
     ensures { λ r. ⌜ RowDone prq-rows found D4 (now (worker .entry)) (now (cell .entry)) r (now (worker .exit)) (now (cell .entry)) ⌝ }
 {
-    if !worker.pair.is_still(cell.pair) {
+    let again = cell.pair;
+    if !worker.pair.is_still(again) {
         return go_on(worker, Phase::Kind(KindRow::D2));
     }
-    if found.round.0 < cell.pair.epoch.0 {
+    if found.round.0 < again.epoch.0 {
         return pass_over(worker);
     }
-    let next = by_value(worker.value, cell.pair.epoch.0 == found.round.0);
+    let next = by_value(worker.value, again.epoch.0 == found.round.0);
     go_on(worker, Phase::Kind(next))
 }
 
