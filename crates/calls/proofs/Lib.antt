@@ -4,3 +4,5 @@ pub mod Continues
 pub mod Opens
 pub mod Fills
 pub mod Counting
+pub mod Sequences
+pub mod MadeBooks
