@@ -4,8 +4,7 @@ use mathlib.Core.List.{_∷_}
 use Rattle.ring.specs.declared.call.Call.{Call}
 use Rattle.ring.specs.Table.{Table}
 use Rattle.ring.specs.Turns.{KindStep}
-use Rattle.ring.specs.Rows.{Outcome}
-use Rattle.ring.specs.Calls.{called}
+use Rattle.ring.specs.Calls.{Outcome, called}
 use Rattle.ring.specs.Books.{BooksClose}
 use Rattle.calls.specs.Promise.{Continues}
 

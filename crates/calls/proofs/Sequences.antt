@@ -12,8 +12,7 @@ use Rattle.ring.specs.declared.call.Call.{Call}
 use Rattle.ring.specs.declared.call.Call.the-variants.{Step}
 use Rattle.ring.specs.Table.{Table}
 use Rattle.ring.specs.Turns.{KindStep}
-use Rattle.ring.specs.Rows.{Outcome}
-use Rattle.ring.specs.Calls.{called, after}
+use Rattle.ring.specs.Calls.{Outcome, called, after}
 use Rattle.calls.specs.Sequence.{replies, made, answers-after}
 
 -- one more from the list, reversed

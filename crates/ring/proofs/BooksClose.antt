@@ -16,8 +16,7 @@ use Rattle.ring.specs.declared.call.Call.{Call}
 use Rattle.ring.specs.Table.{Table, InRange, worker, cell, occupied, Held}
 use Rattle.ring.specs.Phases.{side}
 use Rattle.ring.specs.Turns.{Turn, KindStep}
-use Rattle.ring.specs.Rows.{Outcome, turned}
-use Rattle.ring.specs.Calls.{row, called}
+use Rattle.ring.specs.Calls.{Outcome, turned, row, called}
 use Rattle.ring.specs.Ledger.{Ledger, run}
 use Rattle.ring.specs.Books.{Attended, EmptyAttended, BooksClose}
 use Rattle.ring.specs.Laws.{Reached, Turned, EnqueueTurn, DequeueTurn, item-of, then-table, TurnOf, TouchesItsOwn, NeitherWay, PlacesFree, TakesHeld, LeavesItems, PassesBarred, StaysBarred}
