@@ -1,11 +1,10 @@
 -- A call that does what its definition says continues the books of the run before it.
-use mathlib.Core.Path.{_≡_, sym, ap, subst, _∙_}
+use mathlib.Core.Path.{_≡_, sym, ap, _∙_}
 use mathlib.Core.List.{_∷_}
 use Rattle.ring.specs.declared.call.Call.{Call}
 use Rattle.ring.specs.Table.{Table}
 use Rattle.ring.specs.Turns.{KindStep}
-use Rattle.ring.specs.Rows.{Outcome}
-use Rattle.ring.specs.Calls.{called}
+use Rattle.ring.specs.Calls.{Outcome, called}
 use Rattle.ring.specs.Books.{BooksClose}
 use Rattle.calls.specs.Promise.{Continues}
 
@@ -13,10 +12,3 @@ pub continues : {I : Type 0} (step : KindStep I) → BooksClose step → (t : Ta
 continues step close t call o done r w h earlier led =
     let b = close r w h (call ∷ earlier) in
     (ap (λ u. called step u call .table) led ∙ sym (ap (λ x. x .table) done), b .0, b .1)
-
--- a call known by its parts
-pub rows-by : {I : Type 0} (step : KindStep I) (t : Table I) (o : Outcome I) (c c′ : Call I) → c ≡ c′ → o ≡ called step t c′ → o ≡ called step t c
-rows-by step t o c c′ e = subst (λ x. o ≡ called step t x) (sym e)
-
-pub books-by : {I : Type 0} (step : KindStep I) (t t′ : Table I) (c c′ : Call I) → c ≡ c′ → Continues step t c′ t′ → Continues step t c t′
-books-by step t t′ c c′ e = subst (λ x. Continues step t x t′) (sym e)

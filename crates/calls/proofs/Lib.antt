@@ -1,6 +1,7 @@
-pub mod PutBack
 pub mod Ways
 pub mod Continues
-pub mod Opens
 pub mod Fills
+pub mod Opens
 pub mod Counting
+pub mod Sequences
+pub mod MadeBooks

@@ -8,10 +8,10 @@ use Rattle.std.specs.declared.result.Result.{Result}
 use Rattle.std.specs.declared.result.Result.the-variants.{Ok, Err}
 use Rattle.ring.specs.declared.table.Cell.{Cell}
 use Rattle.ring.specs.declared.table.Worker.{Worker}
+use Rattle.ring.specs.declared.control.Control.{Control}
 use Rattle.ring.specs.declared.answers.Refusal.{Refusal}
 use Rattle.ring.specs.declared.answers.Refusal.the-variants.{Ring, Crew}
-use Rattle.ring.specs.declared.control.Control.{Control}
-use Rattle.ring.specs.Table.{InRange, Counters, Table, laid-out}
+use Rattle.ring.specs.Table.{Counters, Table, InRange, laid-out}
 use Rattle.ring.specs.Ledger.{blank}
 use Rattle.ring.specs.Books.{Sound}
 use Rattle.calls.specs.Promise.{counters, table}

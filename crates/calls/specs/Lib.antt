@@ -1,2 +1,5 @@
 pub mod Promise
+pub mod Engine
+pub mod Turns
 pub mod Laying
+pub mod Sequence

@@ -48,6 +48,45 @@ fn assigned<I: Copy>(
     Ok(Answer::Assigned)
 }
 
+// An enqueue starts at E1, with its item.
+fn enqueue_assigned<I: Copy, K: RingKind<I>>(
+    control: &Control,
+    cells: &[Cell<I>],
+    workers: &mut [Worker<I>],
+    number: WorkerNo,
+    item: I,
+) -> Result<Answer<I>, Refusal>
+    ensures { λ r. ⌜ left (now (control .entry)) (now (cells .entry)) (now (workers .exit)) r ≡ called (K·RingKind .step) (table (now (control .entry)) (now (cells .entry)) (now (workers .entry))) (AssignEnqueue number item) ⌝ }
+{
+    assigned(
+        control,
+        cells,
+        workers,
+        number,
+        Phase::Engine(EngineRow::E1),
+        Some(item),
+    )
+}
+
+// A dequeue starts at D1.
+fn dequeue_assigned<I: Copy, K: RingKind<I>>(
+    control: &Control,
+    cells: &[Cell<I>],
+    workers: &mut [Worker<I>],
+    number: WorkerNo,
+) -> Result<Answer<I>, Refusal>
+    ensures { λ r. ⌜ left (now (control .entry)) (now (cells .entry)) (now (workers .exit)) r ≡ called (K·RingKind .step) (table (now (control .entry)) (now (cells .entry)) (now (workers .entry))) (AssignDequeue number) ⌝ }
+{
+    assigned(
+        control,
+        cells,
+        workers,
+        number,
+        Phase::Engine(EngineRow::D1),
+        None,
+    )
+}
+
 // Gives an idle worker an enqueue of an item. The kind is the one whose steps the table gets; it is not asked.
 pub fn assign_enqueue<I: Copy, K: RingKind<I>>(
     control: &Control,
@@ -59,14 +98,7 @@ pub fn assign_enqueue<I: Copy, K: RingKind<I>>(
     ensures rows { λ r. ⌜ left (now (control .entry)) (now (cells .entry)) (now (workers .exit)) r ≡ called (K·RingKind .step) (table (now (control .entry)) (now (cells .entry)) (now (workers .entry))) (AssignEnqueue number item) ⌝ }
     ensures books { λ _. ⌜ Continues (K·RingKind .step) (table (now (control .entry)) (now (cells .entry)) (now (workers .entry))) (AssignEnqueue number item) (table (now (control .entry)) (now (cells .entry)) (now (workers .exit))) ⌝ }
 {
-    assigned(
-        control,
-        cells,
-        workers,
-        number,
-        Phase::Engine(EngineRow::E1),
-        Some(item),
-    )
+    enqueue_assigned::<I, K>(control, cells, workers, number, item)
 }
 
 // Gives an idle worker a dequeue.
@@ -79,12 +111,5 @@ pub fn assign_dequeue<I: Copy, K: RingKind<I>>(
     ensures rows { λ r. ⌜ left (now (control .entry)) (now (cells .entry)) (now (workers .exit)) r ≡ called (K·RingKind .step) (table (now (control .entry)) (now (cells .entry)) (now (workers .entry))) (AssignDequeue number) ⌝ }
     ensures books { λ _. ⌜ Continues (K·RingKind .step) (table (now (control .entry)) (now (cells .entry)) (now (workers .entry))) (AssignDequeue number) (table (now (control .entry)) (now (cells .entry)) (now (workers .exit))) ⌝ }
 {
-    assigned(
-        control,
-        cells,
-        workers,
-        number,
-        Phase::Engine(EngineRow::D1),
-        None,
-    )
+    dequeue_assigned::<I, K>(control, cells, workers, number)
 }

@@ -48,18 +48,13 @@ pub fn is_idle<I: Copy>(workers: &[Worker<I>], number: WorkerNo) -> bool
     }
 }
 
-// The ticket of a worker is within the limit, and an enqueue has its item.
-pub fn fits<I: Copy>(workers: &[Worker<I>], number: WorkerNo, side: Side) -> bool
-    requires { ⌜ 1 ≤ number .0 ⌝ ∗ ⌜ number .0 - 1 < length (now workers) ⌝ }
-    ensures { λ r. ⌜ r ≡ fit (getD (now (workers .entry)) (number .0 - 1) idle-worker) side ⌝ }
+// The ticket is within the limit, and an enqueue has its item.
+pub fn fits<I: Copy>(worker: &Worker<I>, side: Side) -> bool
+    ensures { λ r. ⌜ r ≡ fit (now (worker .entry)) side ⌝ }
 {
-    let at = number.0 as usize - 1;
     match side {
         Side::Neither => true,
-        Side::Enqueuing => {
-            let carried = workers[at].item;
-            workers[at].ticket.0 < LIMIT && carried.is_some()
-        }
-        Side::Dequeuing => workers[at].ticket.0 < LIMIT,
+        Side::Enqueuing => worker.ticket.0 < LIMIT && worker.item.is_some(),
+        Side::Dequeuing => worker.ticket.0 < LIMIT,
     }
 }

@@ -6,4 +6,5 @@ mod guards;
 pub mod lay_out;
 pub mod make;
 pub mod occupied;
+pub mod sequence;
 pub mod step;

@@ -2,13 +2,15 @@
 ghost use mathlib.Core.Path.{_≡_};
 ghost use lib.ListN.{length, getD};
 ghost use Prim.Native.Nat.{ℕ, _-_, _<_, _≤_};
-ghost use Rattle.ring.specs.declared.call.Call.the-variants.{Step};
 ghost use Rattle.tickets.specs.Places.{slot};
+ghost use Rattle.ring.specs.declared.call.Call.the-variants.{Step};
 ghost use Rattle.ring.specs.Table.{fresh-cell, idle-worker};
-ghost use Rattle.ring.specs.Rows.{kind-row};
-ghost use Rattle.ring.specs.Phases.{kind-side};
+ghost use Rattle.ring.specs.Phases.{engine-side, kind-side};
+ghost use Rattle.ring.specs.Turns.{Performed};
+ghost use Rattle.ring.specs.Rows.{engine-row};
 ghost use Rattle.ring.specs.Calls.{fitting, row as row-of-phase, called};
-ghost use Rattle.calls.specs.Promise.{table, left, put-back, Continues};
+ghost use Rattle.calls.specs.Promise.{counters, table, left, Continues};
+ghost use Rattle.calls.specs.Turns.{EngineAt, KindAt};
 use crate::engine::engine_turn;
 use crate::guards::*;
 use ring::answers::*;
@@ -26,59 +28,58 @@ fn slot_of<I: Copy>(control: &Control, workers: &[Worker<I>], number: WorkerNo) 
     workers[number.0 as usize - 1].ticket.slot(control.cells)
 }
 
-// A row of the ring kind, on the cell with that index.
-fn performed_at<I: Copy, K: RingKind<I>>(
-    kind: &K,
-    control: &Control,
-    cells: &mut [Cell<I>],
-    workers: &mut [Worker<I>],
-    number: WorkerNo,
-    index: usize,
-) -> Result<Answer<I>, Refusal>
-    requires { ⌜ 1 ≤ number .0 ⌝ ∗ ⌜ number .0 - 1 < length (now workers) ⌝ ∗ ⌜ index < length (now cells) ⌝ }
-    ensures { λ r. ⌜ left (now (control .entry)) (now (cells .exit)) (now (workers .exit)) r ≡ put-back (table (now (control .entry)) (now (cells .entry)) (now (workers .entry))) (number .0 - 1) index (K·RingKind .step (now (control .entry) .cells) (now (control .entry) .head) number (getD (now (workers .entry)) (number .0 - 1) idle-worker) (getD (now (cells .entry)) index fresh-cell)) ⌝ }
-{
-    let at = number.0 as usize - 1;
-    kind.perform(
-        control.cells,
-        control.head,
-        number,
-        &mut workers[at],
-        &mut cells[index],
-    )
-}
-
-// A row of the ring kind.
-fn kind_row_of<I: Copy, K: RingKind<I>>(
-    kind: &K,
-    control: &Control,
-    cells: &mut [Cell<I>],
-    workers: &mut [Worker<I>],
-    number: WorkerNo,
-) -> Result<Answer<I>, Refusal>
-    requires { ⌜ 1 ≤ number .0 ⌝ ∗ ⌜ number .0 - 1 < length (now workers) ⌝ ∗ ⌜ length (now cells) ≡ now control .cells ⌝ }
-    ensures { λ r. ⌜ left (now (control .entry)) (now (cells .exit)) (now (workers .exit)) r ≡ kind-row (K·RingKind .step) (table (now (control .entry)) (now (cells .entry)) (now (workers .entry))) number (getD (now (workers .entry)) (number .0 - 1) idle-worker) ⌝ }
-{
-    let index = slot_of(control, workers, number);
-    performed_at(kind, control, cells, workers, number, index)
-}
-
 // A row of the ring kind, after the tests of the worker's record.
 fn kind_turn<I: Copy, K: RingKind<I>>(
+    kind: &K,
+    control: &Control,
+    number: WorkerNo,
+    row: KindRow,
+    worker: &mut Worker<I>,
+    cell: &mut Cell<I>,
+) -> Result<Answer<I>, Refusal>
+    ensures { λ r. ⌜ Performed (fitting (now (worker .entry)) (kind-side row) (K·RingKind .step (now (control .entry) .cells) (now (control .entry) .head) number (now (worker .entry)) (now (cell .entry)))) (now (worker .entry)) (now (cell .entry)) r (now (worker .exit)) (now (cell .exit)) ⌝ }
+{
+    if !fits(worker, row.side()) {
+        return Err(Refusal::Misfit);
+    }
+    kind.perform(control.cells, control.head, number, worker, cell)
+}
+
+// A row of the engine, on the record of a worker.
+fn engine_at<I: Copy>(
+    control: &mut Control,
+    workers: &mut [Worker<I>],
+    number: WorkerNo,
+    row: EngineRow,
+) -> Result<Answer<I>, Refusal>
+    requires { ⌜ 1 ≤ number .0 ⌝ ∗ ⌜ number .0 - 1 < length (now workers) ⌝ }
+    ensures { λ r. ⌜ EngineAt (fitting (getD (now (workers .entry)) (number .0 - 1) idle-worker) (engine-side row) (engine-row (counters (now (control .entry))) (getD (now (workers .entry)) (number .0 - 1) idle-worker) row)) (counters (now (control .entry))) (now (workers .entry)) (number .0 - 1) r (counters (now (control .exit))) (now (workers .exit)) ⌝ }
+{
+    engine_turn(control, &mut workers[number.0 as usize - 1], row)
+}
+
+// A row of the ring kind, on the record of a worker and the cell with that index.
+fn kind_at<I: Copy, K: RingKind<I>>(
     kind: &K,
     control: &Control,
     cells: &mut [Cell<I>],
     workers: &mut [Worker<I>],
     number: WorkerNo,
     row: KindRow,
+    index: usize,
 ) -> Result<Answer<I>, Refusal>
-    requires { ⌜ 1 ≤ number .0 ⌝ ∗ ⌜ number .0 - 1 < length (now workers) ⌝ ∗ ⌜ length (now cells) ≡ now control .cells ⌝ }
-    ensures { λ r. ⌜ left (now (control .entry)) (now (cells .exit)) (now (workers .exit)) r ≡ fitting (table (now (control .entry)) (now (cells .entry)) (now (workers .entry))) (getD (now (workers .entry)) (number .0 - 1) idle-worker) (kind-side row) (kind-row (K·RingKind .step) (table (now (control .entry)) (now (cells .entry)) (now (workers .entry))) number (getD (now (workers .entry)) (number .0 - 1) idle-worker)) ⌝ }
+    requires { ⌜ 1 ≤ number .0 ⌝ ∗ ⌜ number .0 - 1 < length (now workers) ⌝ ∗ ⌜ index < length (now cells) ⌝ }
+    ensures { λ r. ⌜ KindAt (fitting (getD (now (workers .entry)) (number .0 - 1) idle-worker) (kind-side row) (K·RingKind .step (now (control .entry) .cells) (now (control .entry) .head) number (getD (now (workers .entry)) (number .0 - 1) idle-worker) (getD (now (cells .entry)) index fresh-cell))) (now (cells .entry)) (now (workers .entry)) index (number .0 - 1) r (now (cells .exit)) (now (workers .exit)) ⌝ }
 {
-    if !fits(workers, number, row.side()) {
-        return Err(Refusal::Misfit);
-    }
-    kind_row_of(kind, control, cells, workers, number)
+    let at = number.0 as usize - 1;
+    kind_turn(
+        kind,
+        control,
+        number,
+        row,
+        &mut workers[at],
+        &mut cells[index],
+    )
 }
 
 // The row of the worker's phase.
@@ -94,8 +95,11 @@ fn turn<I: Copy, K: RingKind<I>>(
 {
     match phase_of(workers, number) {
         Phase::Idle => Err(Refusal::Idle),
-        Phase::Engine(row) => engine_turn(control, workers, number, row),
-        Phase::Kind(row) => kind_turn(kind, control, cells, workers, number, row),
+        Phase::Engine(row) => engine_at(control, workers, number, row),
+        Phase::Kind(row) => {
+            let index = slot_of(control, workers, number);
+            kind_at(kind, control, cells, workers, number, row, index)
+        }
     }
 }
 

@@ -16,6 +16,7 @@ use Rattle.tickets.specs.declared.WorkerNo.{WorkerNo}
 use Rattle.ring.specs.declared.table.Cell.{Cell}
 use Rattle.ring.specs.declared.table.Worker.{Worker}
 use Rattle.ring.specs.declared.table.Value.the-variants.{Empty}
+use Rattle.ring.specs.declared.table.EngineRow.{EngineRow}
 use Rattle.ring.specs.declared.table.EngineRow.the-variants.{E1, E2, D1}
 use Rattle.ring.specs.declared.table.KindRow.{KindRow}
 use Rattle.ring.specs.declared.table.KindRow.the-variants.{E3, D2}
@@ -24,10 +25,10 @@ use Rattle.ring.specs.declared.answers.Answer.{Answer}
 use Rattle.ring.specs.declared.answers.Answer.the-variants.{Assigned, Working}
 use Rattle.ring.specs.declared.call.Call.the-variants.{AssignEnqueue, AssignDequeue, Step}
 use Rattle.ring.specs.Table.{Counters, Table, InRange, counter-limit, ticket, idle-pair, fresh-cell, idle-worker, laid-out}
-use Rattle.ring.specs.Phases.{kind-side, is-idle}
+use Rattle.ring.specs.Phases.{engine-side, kind-side, is-idle}
 use Rattle.ring.specs.Turns.{Turn, KindStep}
-use Rattle.ring.specs.Rows.{Outcome, moved, turned}
-use Rattle.ring.specs.Calls.{counts-agree, is-worker, for-worker, starting, fit, row, called}
+use Rattle.ring.specs.Rows.{EngineTurn, engine-row}
+use Rattle.ring.specs.Calls.{Outcome, moved, engine-turned, turned, counts-agree, is-worker, for-worker, starting, fit, fitting, row, called}
 use Rattle.ring.specs.Laws.{alone}
 use Rattle.ring.proofs.Orderly.{drawn}
 
@@ -89,13 +90,17 @@ module _ {I : Type 0} where
       move-stands : (h′ l′ : ℕ) (v′ : Worker I) (a : Answer I) (x : Outcome I) → x ≡ moved tab (counted r w h′ l′) n v′ a → Stands r w h′ l′ n (x .table) v′ c
       move-stands h′ l′ v′ a x e = then-stands h′ l′ v′ c (s .cells) (x .table) (s .ring) (s .holds) (ap (λ (y : Outcome I). y .table) e)
 
+      engine-is : (e : EngineRow) (out : EngineTurn I) → v .phase ≡ Engine e → fit v (engine-side e) ≡ true → engine-row (counted r w h l) v e ≡ Ok out
+          → called step t (Step n) ≡ moved tab (out .counters) n (out .worker) (out .answer)
+      engine-is e out p f x = step-is ∙ (ap (row step tab n v) p ∙ ap (engine-turned tab n) (cond-true (fit v (engine-side e)) _ _ f ∙ x))
+
       pub turn-is : (k : KindRow) (out : Turn I) → v .phase ≡ Kind k → v .ticket ≡ ticket r → fit v (kind-side k) ≡ true → step r h n v c ≡ Ok out
           → called step t (Step n) ≡ turned tab n (ticket r) (Ok out)
       turn-is k out p q f e =
           step-is
           ∙ (ap (row step tab n v) p
-          ∙ (cond-true (fit v (kind-side k)) _ _ f
-          ∙ ((λ i. turned tab n (q i) (step r h n v (getD (s .cells) (q i .0 % r) fresh-cell))) ∙ (ap (λ y. turned tab n (ticket r) (step r h n v y)) (s .holds) ∙ ap (turned tab n (ticket r)) e))))
+          ∙ ((λ i. turned tab n (q i) (fitting v (kind-side k) (step r h n v (getD (s .cells) (q i .0 % r) fresh-cell))))
+          ∙ ap (turned tab n (ticket r)) (cond-true (fit v (kind-side k)) _ _ f ∙ (ap (step r h n v) (s .holds) ∙ e))))
 
       pub turn-stands : (out : Turn I) (x : Outcome I) → x ≡ turned tab n (ticket r) (Ok out) → Stands r w h l n (x .table) (out .worker) (out .cell)
       turn-stands out x e =
@@ -146,9 +151,9 @@ module _ {I : Type 0} where
         (ap (λ y. called step y (AssignEnqueue n i)) (s .is) ∙ (open-to r r n t idle-worker c s _ ∙ cond-true _ _ _ (ap (λ (y : Worker I). is-idle (y .phase)) (s .has))))
         in
         let drawn : Stands r w r (r + 1) n (alone step (called step t (AssignEnqueue n i) .table) n 1 .table) (record { phase = Engine E2; ticket = ticket r; item = Some i; pair = idle-pair; value = Empty }) c =
-        move-stands r r n _ _ c given r (r + 1) _ Working _ (step-is r r n _ _ c given ∙ cond-false _ _ _ (ne-eqb r counter-limit (λ e. omega (arith, range))))
+        move-stands r r n _ _ c given r (r + 1) _ Working _ (engine-is r r n _ _ c given E1 _ refl refl (cond-false _ _ _ (ne-eqb r counter-limit (λ e. omega (arith, range)))))
         in
-        move-stands r (r + 1) n _ _ c drawn r (r + 1) _ Working _ (step-is r (r + 1) n _ _ c drawn ∙ cond-true _ _ _ (and-from _ _ (lt-ltb r counter-limit (omega (arith, range))) refl))
+        move-stands r (r + 1) n _ _ c drawn r (r + 1) _ Working _ (engine-is r (r + 1) n _ _ c drawn E2 _ refl (and-from _ _ (lt-ltb r counter-limit (omega (arith, range))) refl) refl)
 
     pub dequeue-comes : (l : ℕ) (n : WorkerNo) (t : Table I) (c : Cell I) → Stands r w r l n t idle-worker c
         → Stands r w (r + 1) l n (alone step (called step t (AssignDequeue n) .table) n 1 .table) (dequeue-in r) c
@@ -157,4 +162,4 @@ module _ {I : Type 0} where
         move-stands r l n t idle-worker c s r l _ Assigned (called step t (AssignDequeue n))
         (ap (λ y. called step y (AssignDequeue n)) (s .is) ∙ (open-to r l n t idle-worker c s _ ∙ cond-true _ _ _ (ap (λ (y : Worker I). is-idle (y .phase)) (s .has))))
         in
-        move-stands r l n _ _ c given (r + 1) l _ Working _ (step-is r l n _ _ c given ∙ cond-false _ _ _ (ne-eqb r counter-limit (λ e. omega (arith, range))))
+        move-stands r l n _ _ c given (r + 1) l _ Working _ (engine-is r l n _ _ c given D1 _ refl refl (cond-false _ _ _ (ne-eqb r counter-limit (λ e. omega (arith, range)))))

@@ -13,11 +13,10 @@ use Rattle.ring.specs.declared.table.Side.the-variants.{Neither, Enqueuing, De
 use Rattle.ring.specs.declared.answers.Answer.{Answer}
 use Rattle.ring.specs.declared.answers.Answer.the-variants.{Working, Placed, Taken, PassedOver, Empty}
 use Rattle.ring.specs.declared.call.Call.{Call}
-use Rattle.ring.specs.Table.{Table, InRange, laid-out, worker, cell, occupied, Held}
+use Rattle.ring.specs.Table.{Table, InRange, worker, cell, occupied, Held}
 use Rattle.ring.specs.Phases.{side}
 use Rattle.ring.specs.Turns.{Turn, KindStep}
-use Rattle.ring.specs.Rows.{Outcome, turned}
-use Rattle.ring.specs.Calls.{row, called, after}
+use Rattle.ring.specs.Calls.{Outcome, turned, row, called}
 use Rattle.ring.specs.Ledger.{Ledger, run}
 use Rattle.ring.specs.Books.{Attended, EmptyAttended, BooksClose}
 use Rattle.ring.specs.Laws.{Reached, Turned, EnqueueTurn, DequeueTurn, item-of, then-table, TurnOf, TouchesItsOwn, NeitherWay, PlacesFree, TakesHeld, LeavesItems, PassesBarred, StaysBarred}
@@ -33,6 +32,7 @@ use Rattle.ring.proofs.Attendance.{on-side, at-work-in, working}
 use Rattle.ring.proofs.Books.{Books, booked, held-range, held-attended, books-sound, books-new}
 use Rattle.ring.proofs.BooksOfMoves.{after-outcome, books-move}
 use Rattle.ring.proofs.BooksOfTurns.{answered, working-inside, books-working, books-passed, books-taken, books-placed}
+use Rattle.ring.proofs.Led.{run-led}
 
 module _ {I : Type 0} where
   -- only the row that found the queue empty answers so
@@ -144,12 +144,8 @@ module _ {I : Type 0} (step : KindStep I) (held : Table I → Ticket → I → T
       absurd (never-empty (side (worker t n .phase)) (worker t n) out d (laws .touches-its-own t r .0 n out w) (cc))
 
   module _ (r w : ℕ) (h : InRange r w) where
-    run-led : (calls : List (Call I)) → after step (laid-out r w) calls ≡ run step r w calls .table
-    run-led [] = refl
-    run-led (c ∷ cs) = ap (λ t. called step t c .table) (run-led cs)
-
     run-reached : (calls : List (Call I)) → Reached step (run step r w calls .table)
-    run-reached calls = record { ring = r; crew = w; in-range = h; calls = calls; led = run-led calls }
+    run-reached calls = record { ring = r; crew = w; in-range = h; calls = calls; led = run-led step r w calls }
 
     books-run : (calls : List (Call I)) → Books barred (run step r w calls)
     books-run [] = books-new barred step r w h

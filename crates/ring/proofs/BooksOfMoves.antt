@@ -21,8 +21,7 @@ use Rattle.ring.specs.declared.answers.Answer.{Answer}
 use Rattle.ring.specs.declared.call.Call.{Call}
 use Rattle.ring.specs.declared.call.Call.the-variants.{Step}
 use Rattle.ring.specs.Table.{Counters, Table, ticket, fresh-cell, worker, Held}
-use Rattle.ring.specs.Rows.{Outcome}
-use Rattle.ring.specs.Calls.{is-worker}
+use Rattle.ring.specs.Calls.{Outcome, is-worker}
 use Rattle.ring.specs.Ledger.{Event, Ledger, State, work, worked, fed}
 use Rattle.ring.proofs.Moves.{Move, Moved, move-from, move-counters, move-worker, move-answer, move-call, move-outcome, move-table, gets-enqueue, gets-dequeue, draws-tail, finds-open, finds-closed, finds-room, finds-full, shuts, draws-head, finds-more, finds-empty}
 use Rattle.ring.proofs.Orderly.{Orderly}

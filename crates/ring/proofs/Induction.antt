@@ -22,8 +22,7 @@ use Rattle.ring.specs.declared.call.Call.the-variants.{Step}
 use Rattle.ring.specs.Table.{Table, InRange, counter-limit, laid-out, worker, cell}
 use Rattle.ring.specs.Phases.{kind-side, side}
 use Rattle.ring.specs.Turns.{Turn, KindStep}
-use Rattle.ring.specs.Rows.{Outcome, turned}
-use Rattle.ring.specs.Calls.{counts-agree, is-worker, carries, fit, row, called, after}
+use Rattle.ring.specs.Calls.{Outcome, turned, counts-agree, is-worker, carries, fit, row, called, after}
 use Rattle.ring.specs.Laws.{Reached, Turned, Framed, then-table, TouchesItsOwn}
 use Rattle.ring.proofs.Moves.{Move, Moved, move-table}
 use Rattle.ring.proofs.Comes.{Comes, call-comes, refuses, moves, turns}
@@ -104,8 +103,8 @@ module _ {I : Type 0} (step : KindStep I) where
         (eq-eqb (length (t .workers)) (t .counters .workers) (o .crew)))
         ∙ (cond-true (is-worker t n) _ _ (d .there)
         ∙ (ap (row step t n (worker t n)) (d .inside)
-        ∙ (cond-true (fit (worker t n) (kind-side (d .standing))) _ _ (turn-fit t o n (d .there) (d .standing) (d .inside) (kind-side (d .standing)) refl)
-        ∙ ap (turned t n (worker t n .ticket)) (d .gave))))
+        ∙ ap (turned t n (worker t n .ticket))
+        (cond-true (fit (worker t n) (kind-side (d .standing))) _ _ (turn-fit t o n (d .there) (d .standing) (d .inside) (kind-side (d .standing)) refl) ∙ d .gave)))
 
     pub reached-turn : (t : Table I) → Reached step t → (n : WorkerNo) (out : Turn I) → Turned step t n out → Reached step (then-table t n out)
     reached-turn t r n out d = subst (λ (o : Outcome I). Reached step (o .table)) (turn-called t (reached-orderly t r) n out d) (reached-call t (Step n) r)

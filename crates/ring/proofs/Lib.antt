@@ -19,6 +19,7 @@ pub mod Items
 pub mod Books
 pub mod BooksOfMoves
 pub mod BooksOfTurns
+pub mod Led
 pub mod BooksClose
 pub mod Alone
 pub mod RoundTrip

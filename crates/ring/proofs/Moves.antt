@@ -15,8 +15,7 @@ use Rattle.ring.specs.declared.call.Call.{Call}
 use Rattle.ring.specs.declared.call.Call.the-variants.{AssignEnqueue, AssignDequeue, Step}
 use Rattle.ring.specs.Table.{Counters, Table, counter-limit, ticket, worker}
 use Rattle.ring.specs.Fields.{with-head, with-tail, shut, with-phase, with-ticket, finished}
-use Rattle.ring.specs.Rows.{Outcome, moved}
-use Rattle.ring.specs.Calls.{is-worker, starting}
+use Rattle.ring.specs.Calls.{Outcome, moved, is-worker, starting}
 
 -- an assignment or a row of the engine, by what it finds
 pub data Move (I : Type 0) : Type 0 where

@@ -14,8 +14,7 @@ use Rattle.ring.specs.declared.call.Call.the-variants.{AssignEnqueue, AssignDe
 use Rattle.ring.specs.Table.{Table, InRange, ticket, fresh-cell, idle-worker, laid-out, worker, cell}
 use Rattle.ring.specs.Phases.{kind-side}
 use Rattle.ring.specs.Turns.{Turn, KindStep, places, takes}
-use Rattle.ring.specs.Rows.{Outcome}
-use Rattle.ring.specs.Calls.{is-worker, fit, called}
+use Rattle.ring.specs.Calls.{Outcome, is-worker, fit, called}
 use Rattle.ring.specs.Laws.{ThereAndBack, alone}
 use Rattle.ring.proofs.Alone.{Stands, enqueue-in, dequeue-in, turn-is, turn-stands, new-stands, hands-over, enqueue-comes, dequeue-comes}
 

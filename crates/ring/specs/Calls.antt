@@ -1,11 +1,16 @@
 -- The calls on a table, with their tests in order: the counts (13), the worker's number (14), busy or idle (15, 16), the rest of 13, and spent (17, in the rows).
 use mathlib.Core.Bool.{Bool, true, false, cond, _&&_}
 use mathlib.Core.List.{List, [], _∷_}
+use Prim.Native.Nat.{_-_}
 use lib.Dec.{leb, ltb, eqb}
-use lib.ListN.{length}
+use lib.ListN.{length, set}
+use Rattle.std.specs.declared.result.Result.{Result}
+use Rattle.std.specs.declared.result.Result.the-variants.{Ok, Err}
 use Rattle.std.specs.declared.option.Option.{Option}
 use Rattle.std.specs.declared.option.Option.the-variants.{None, Some}
+use Rattle.tickets.specs.declared.Ticket.{Ticket}
 use Rattle.tickets.specs.declared.WorkerNo.{WorkerNo}
+use Rattle.tickets.specs.Places.{slot}
 use Rattle.ring.specs.declared.table.Worker.{Worker}
 use Rattle.ring.specs.declared.table.Value.the-variants.{Empty}
 use Rattle.ring.specs.declared.table.Side.{Side}
@@ -13,17 +18,46 @@ use Rattle.ring.specs.declared.table.Side.the-variants.{Neither, Enqueuing, De
 use Rattle.ring.specs.declared.table.EngineRow.the-variants.{E1, D1}
 use Rattle.ring.specs.declared.table.Phase.{Phase}
 use Rattle.ring.specs.declared.table.Phase.the-variants.{Idle, Engine, Kind}
+use Rattle.ring.specs.declared.answers.Answer.{Answer}
 use Rattle.ring.specs.declared.answers.Answer.the-variants.{Assigned}
 use Rattle.ring.specs.declared.answers.Refusal.{Refusal}
 use Rattle.ring.specs.declared.answers.Refusal.the-variants.{Misfit, Nobody, Busy}
 use Rattle.ring.specs.declared.call.Call.{Call}
 use Rattle.ring.specs.declared.call.Call.the-variants.{AssignEnqueue, AssignDequeue, Step}
-use Rattle.ring.specs.Table.{Table, counter-limit, ticket, idle-pair, worker}
+use Rattle.ring.specs.Table.{Counters, Table, counter-limit, ticket, idle-pair, worker, cell}
 use Rattle.ring.specs.Phases.{engine-side, kind-side, is-idle}
-use Rattle.ring.specs.Turns.{KindStep}
-use Rattle.ring.specs.Rows.{Outcome, refused, moved, engine-row, kind-row}
+use Rattle.ring.specs.Turns.{Turn, KindStep}
+use Rattle.ring.specs.Rows.{EngineTurn, engine-row}
+
+-- what a call answers, and the table after it
+pub record Outcome (I : Type 0) : Type 0 where
+  pub table : Table I
+  pub answer : Result (Answer I) Refusal
 
 module _ {I : Type 0} where
+  -- nothing changes
+  abbrev pub refused : Table I → Refusal → Outcome I
+  refused t r = record { table = t; answer = Err r }
+
+  -- the counters and the worker's record change, the cells do not
+  abbrev pub moved : Table I → Counters → WorkerNo → Worker I → Answer I → Outcome I
+  moved t c n w a = record { table = record { counters = c; cells = t .cells; workers = set (t .workers) (n .0 - 1) w }; answer = Ok a }
+
+  -- a turn of the engine by the worker n, put into the table
+  abbrev pub engine-turned : Table I → WorkerNo → Result (EngineTurn I) Refusal → Outcome I
+  engine-turned t n (Err r) = refused t r
+  engine-turned t n (Ok out) = moved t (out .counters) n (out .worker) (out .answer)
+
+  -- a turn of the ring kind by the worker n with the ticket k, put into the table
+  abbrev pub turned : Table I → WorkerNo → Ticket → Result (Turn I) Refusal → Outcome I
+  turned t n k (Err r) = refused t r
+  turned t n k (Ok out) =
+      record {
+        table =
+            record { counters = t .counters; cells = set (t .cells) (slot (t .counters .cells) k) (out .cell); workers = set (t .workers) (n .0 - 1) (out .worker) };
+        answer = Ok (out .answer);
+      }
+
   abbrev pub counts-agree : Table I → Bool
   counts-agree t = eqb (length (t .cells)) (t .counters .cells) && eqb (length (t .workers)) (t .counters .workers)
 
@@ -51,14 +85,14 @@ module _ {I : Type 0} where
   fit w Enqueuing = ltb (w .ticket .0) counter-limit && carries (w .item)
   fit w Dequeuing = ltb (w .ticket .0) counter-limit
 
-  abbrev pub fitting : Table I → Worker I → Side → Outcome I → Outcome I
-  fitting t w s done = cond (fit w s) done (refused t Misfit)
+  abbrev pub fitting : {A : Type 0} → Worker I → Side → Result A Refusal → Result A Refusal
+  fitting w s turn = cond (fit w s) turn (Err Misfit)
 
-  -- the row of the worker's phase
+  -- the row of the worker's phase: the engine's, or the ring kind's
   abbrev pub row : KindStep I → Table I → WorkerNo → Worker I → Phase → Outcome I
   row step t n w Idle = refused t Refusal.Idle
-  row step t n w (Engine e) = fitting t w (engine-side e) (engine-row t n w e)
-  row step t n w (Kind k) = fitting t w (kind-side k) (kind-row step t n w)
+  row step t n w (Engine e) = engine-turned t n (fitting w (engine-side e) (engine-row (t .counters) w e))
+  row step t n w (Kind k) = turned t n (w .ticket) (fitting w (kind-side k) (step (t .counters .cells) (t .counters .head) n w (cell t (w .ticket))))
 
   abbrev pub stepped : KindStep I → Table I → WorkerNo → Outcome I
   stepped step t n = for-worker t n (row step t n (worker t n) (worker t n .phase))

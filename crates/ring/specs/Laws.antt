@@ -29,8 +29,7 @@ use Rattle.ring.specs.Table.{Table, InRange, laid-out, worker, cell, occupied}
 use Rattle.ring.specs.Phases.{kind-side, side, Outside}
 use Rattle.ring.specs.Fields.{finished}
 use Rattle.ring.specs.Turns.{Turn, KindStep}
-use Rattle.ring.specs.Rows.{Outcome, turned}
-use Rattle.ring.specs.Calls.{is-worker, called, after}
+use Rattle.ring.specs.Calls.{Outcome, turned, is-worker, called, after}
 
 -- outside the kind's phases, or entering them
 abbrev pub Enters : Phase → Type 0

@@ -9,11 +9,11 @@ returns g c =
     let k = g .K·RingKind in
     let m = g .K·RingKind·met in
     record {
-      rows = c .assigned .ensures;
+      rows = c .dequeue-assigned .ensures;
       books =
           continues (k .step)
           (books-close-by (k .step) (k .held) (k .barred) (m .meaning) (m .«touches_its_own») (m .«places_free») (m .«takes_held») (m .«leaves_items») (m .«passes_barred»)
           (m .«stays_barred»))
           (table (c .args .control .now) (c .args .cells .now) (c .args .workers .now)) (AssignDequeue (c .args .number))
-          (left (c .args .control .now) (c .args .cells .now) (c .assigned .last .workers) (c .assigned .result)) (c .assigned .ensures);
+          (left (c .args .control .now) (c .args .cells .now) (c .dequeue-assigned .last .workers) (c .dequeue-assigned .result)) (c .dequeue-assigned .ensures);
     }

@@ -1,30 +1,18 @@
+use Rattle.ring.proofs.BooksClose.{books-close-by}
 use Rattle.calls.specs.Promise.{table, left}
-use Rattle.calls.proofs.Continues.{rows-by, books-by}
+use Rattle.calls.proofs.Continues.{continues}
 use Rattle.calls.proofs.make.make_call.Needs as need
 
-pub returns-in-AssignEnqueue : need.returns-in-AssignEnqueue
-returns-in-AssignEnqueue g c =
+pub returns : need.returns
+returns g c =
     let k = g .K·RingKind in
-    let t = table (c .args .control .now) (c .args .cells .now) (c .args .workers .now) in
+    let m = g .K·RingKind·met in
     record {
-      rows = rows-by (k .step) t _ (c .args .call) _ (c .in-AssignEnqueue .is) (c .assign-enqueue .ensures .rows);
-      books = books-by (k .step) t _ (c .args .call) _ (c .in-AssignEnqueue .is) (c .assign-enqueue .ensures .books);
-    }
-
-pub returns-in-AssignDequeue : need.returns-in-AssignDequeue
-returns-in-AssignDequeue g c =
-    let k = g .K·RingKind in
-    let t = table (c .args .control .now) (c .args .cells .now) (c .args .workers .now) in
-    record {
-      rows = rows-by (k .step) t _ (c .args .call) _ (c .in-AssignDequeue .is) (c .assign-dequeue .ensures .rows);
-      books = books-by (k .step) t _ (c .args .call) _ (c .in-AssignDequeue .is) (c .assign-dequeue .ensures .books);
-    }
-
-pub returns-in-Step : need.returns-in-Step
-returns-in-Step g c =
-    let k = g .K·RingKind in
-    let t = table (c .args .control .now) (c .args .cells .now) (c .args .workers .now) in
-    record {
-      rows = rows-by (k .step) t _ (c .args .call) _ (c .in-Step .is) (c .step .ensures .rows);
-      books = books-by (k .step) t _ (c .args .call) _ (c .in-Step .is) (c .step .ensures .books);
+      rows = c .call-made .ensures;
+      books =
+          continues (k .step)
+          (books-close-by (k .step) (k .held) (k .barred) (m .meaning) (m .«touches_its_own») (m .«places_free») (m .«takes_held») (m .«leaves_items») (m .«passes_barred»)
+          (m .«stays_barred»))
+          (table (c .args .control .now) (c .args .cells .now) (c .args .workers .now)) (c .args .call)
+          (left (c .call-made .last .control) (c .call-made .last .cells) (c .call-made .last .workers) (c .call-made .result)) (c .call-made .ensures);
     }
