@@ -15,7 +15,7 @@ use Rattle.ring.specs.declared.call.Call.the-variants.{AssignEnqueue, AssignDeq
 use Rattle.ring.specs.Answers.{ends-operation}
 use Rattle.ring.specs.Calls.{called}
 use Rattle.ring.specs.Table.{Table}
-use Rattle.ring.specs.Rows.{Outcome}
+use Rattle.ring.specs.Calls.{Outcome}
 use Rattle.ring.specs.Turns.{KindStep}
 use Rattle.play.specs.Orders.{PlainOrder, enqueue, dequeue, steps}
 use Rattle.report.specs.CallLine.{Reply, is-printed, call-line}

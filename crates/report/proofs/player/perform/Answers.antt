@@ -2,7 +2,7 @@ use mathlib.Core.Path.{sym, ap, _∙_}
 use Prim.Native.Nat.{_+_}
 use Rattle.std.proofs.shelf.Results.{err-from-errBy}
 use Rattle.std.specs.Of.Vec.{vec-items}
-use Rattle.ring.specs.Rows.{Outcome}
+use Rattle.ring.specs.Calls.{Outcome}
 use Rattle.report.specs.CallLine.{Reply}
 use Rattle.report.specs.Player.{running}
 use Rattle.report.specs.Running.{caller, has-line, performed, printed}
