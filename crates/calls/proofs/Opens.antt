@@ -18,7 +18,8 @@ use Rattle.ring.specs.Ledger.{blank}
 use Rattle.ring.specs.Books.{Sound}
 use Rattle.ring.proofs.Equals.{clash}
 use Rattle.ring.proofs.Books.{new-sound}
-use Rattle.calls.specs.Promise.{counters, table}
+use Rattle.engine.specs.Engine.{counters}
+use Rattle.calls.specs.Promise.{table}
 use Rattle.calls.specs.Laying.{Laying, counters-of, ring-fits, crew-fits, unlaid, laying, Opens}
 
 range-from : (a b : ℕ) → (leb 1 a && leb a b) ≡ true → (1 ≤ a) × (a ≤ b)

@@ -22,8 +22,8 @@ use Rattle.ring.specs.Phases.{engine-side, kind-side}
 use Rattle.ring.specs.Turns.{Turn, Performed, KindStep}
 use Rattle.ring.specs.Rows.{EngineTurn, engine-row}
 use Rattle.ring.specs.Calls.{engine-turned, turned, fitting, row}
-use Rattle.calls.specs.Promise.{counters, table}
-use Rattle.calls.specs.Engine.{EnginePerformed}
+use Rattle.engine.specs.Engine.{EnginePerformed, counters}
+use Rattle.calls.specs.Promise.{table}
 use Rattle.calls.specs.Turns.{EngineAt, KindAt}
 
 module _ {I : Type 0} where

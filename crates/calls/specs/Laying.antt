@@ -14,7 +14,8 @@ use Rattle.ring.specs.declared.answers.Refusal.the-variants.{Ring, Crew}
 use Rattle.ring.specs.Table.{Counters, Table, InRange, laid-out}
 use Rattle.ring.specs.Ledger.{blank}
 use Rattle.ring.specs.Books.{Sound}
-use Rattle.calls.specs.Promise.{counters, table}
+use Rattle.engine.specs.Engine.{counters}
+use Rattle.calls.specs.Promise.{table}
 
 -- the counters or the refusal, and the memory after it
 pub record Laying (I : Type 0) : Type 0 where

@@ -9,14 +9,12 @@ use Rattle.ring.specs.declared.control.Control.{Control}
 use Rattle.ring.specs.declared.answers.Answer.{Answer}
 use Rattle.ring.specs.declared.answers.Refusal.{Refusal}
 use Rattle.ring.specs.declared.call.Call.{Call}
-use Rattle.ring.specs.Table.{Counters, Table, InRange}
+use Rattle.ring.specs.Table.{Table, InRange}
 use Rattle.ring.specs.Turns.{KindStep}
 use Rattle.ring.specs.Calls.{Outcome}
 use Rattle.ring.specs.Ledger.{run}
 use Rattle.ring.specs.Books.{Sound, EmptyAttended}
-
-abbrev pub counters : Control → Counters
-counters c = record { cells = c .cells; workers = c .workers; head = c .head; tail = c .tail; closed = c .closed }
+use Rattle.engine.specs.Engine.{counters}
 
 module _ {I : Type 0} where
   abbrev pub table : Control → List (Cell I) → List (Worker I) → Table I

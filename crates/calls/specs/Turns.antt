@@ -11,7 +11,7 @@ use Rattle.ring.specs.declared.answers.Refusal.{Refusal}
 use Rattle.ring.specs.Table.{Counters, fresh-cell, idle-worker}
 use Rattle.ring.specs.Turns.{Turn, turn-answer, turn-worker, turn-cell}
 use Rattle.ring.specs.Rows.{EngineTurn}
-use Rattle.calls.specs.Engine.{engine-answer, engine-counters, engine-worker}
+use Rattle.engine.specs.Engine.{engine-answer, engine-counters, engine-worker}
 
 module _ {I : Type 0} where
   -- a turn of the engine on the record with index at

@@ -12,9 +12,6 @@ use ring::control::Control;
 use ring::table::*;
 use tickets::*;
 
-// Tickets stay below this number.
-const LIMIT: u64 = 1_000_000_000_000;
-
 pub fn sizes_agree<I: Copy>(control: &Control, cells: &[Cell<I>], workers: &[Worker<I>]) -> bool
     ensures value { λ r. ⌜ r ≡ counts-agree (table (now (control .entry)) (now (cells .entry)) (now (workers .entry))) ⌝ }
     ensures means { λ r. ⌜ (r ≡ true → (length (now (cells .entry)) ≡ now (control .entry) .cells) × (length (now (workers .entry)) ≡ now (control .entry) .workers)) ⌝ }
@@ -45,16 +42,5 @@ pub fn is_idle<I: Copy>(workers: &[Worker<I>], number: WorkerNo) -> bool
     match phase_of(workers, number) {
         Phase::Idle => true,
         Phase::Engine(_) | Phase::Kind(_) => false,
-    }
-}
-
-// The ticket is within the limit, and an enqueue has its item.
-pub fn fits<I: Copy>(worker: &Worker<I>, side: Side) -> bool
-    ensures { λ r. ⌜ r ≡ fit (now (worker .entry)) side ⌝ }
-{
-    match side {
-        Side::Neither => true,
-        Side::Enqueuing => worker.ticket.0 < LIMIT && worker.item.is_some(),
-        Side::Dequeuing => worker.ticket.0 < LIMIT,
     }
 }

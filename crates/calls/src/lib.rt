@@ -1,10 +1,7 @@
 // The calls on a table: laying out, the two assignments and the step.
 pub mod assign;
-mod engine;
 mod fill;
 mod guards;
 pub mod lay_out;
-pub mod make;
 pub mod occupied;
-pub mod sequence;
 pub mod step;

@@ -2,7 +2,7 @@ use Prim.Native.Nat.{_-_}
 use Rattle.ring.specs.Phases.{engine-side}
 use Rattle.ring.specs.Rows.{engine-row}
 use Rattle.ring.specs.Calls.{fitting}
-use Rattle.calls.specs.Promise.{counters}
+use Rattle.engine.specs.Engine.{counters}
 use Rattle.calls.proofs.Ways.{engine-put}
 use Rattle.calls.proofs.step.engine_at.Needs as need
 

@@ -1,4 +1,5 @@
-use Rattle.calls.specs.Promise.{counters, table}
+use Rattle.engine.specs.Engine.{counters}
+use Rattle.calls.specs.Promise.{table}
 use Rattle.calls.proofs.Ways.{row-engine, row-kind}
 use Rattle.calls.proofs.step.turn.Needs as need
 

@@ -1,0 +1,3 @@
+// The rows of the engine, performed on the control and one worker's record.
+pub mod fits;
+pub mod rows;
