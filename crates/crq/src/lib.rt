@@ -18,6 +18,7 @@ use ring::theorem::books_close;
 use tickets::*;
 use turns::found::*;
 
+#[derive(Clone, Copy)]
 pub struct Crq;
 
 pub impl<I: Copy> RingKind<I> for Crq as CrqKind {
