@@ -2,7 +2,7 @@
 ghost use mathlib.Core.Path.{_≡_};
 ghost use lib.ListN.{length};
 ghost use Rattle.runs.specs.Runs.{worked-runs, WorkedRunsStand};
-ghost use Rattle.runs.specs.Slips.{SlipsBreakTheBooks};
+ghost use Rattle.runs.specs.Slips.{slips, EachBreaks};
 
 // Every worked run comes out as told. There are this many.
 pub fn worked_runs_stand<I: Copy>() -> u8
@@ -12,10 +12,10 @@ pub fn worked_runs_stand<I: Copy>() -> u8
     8
 }
 
-// With any of the four slips of old players, the books of some run do not close: one that places this item.
-pub fn slips_break_the_books<I: Copy>(item: I) -> I
-    ensures slips { λ _. ⌜ SlipsBreakTheBooks I ⌝ }
-    ensures same { λ r. ⌜ r ≡ item ⌝ }
+// With any of the slips of old players, the books of some run do not close: one that places this item. There are this many slips.
+pub fn slips_break_the_books<I: Copy>(item: I) -> u8
+    ensures slips { λ _. ⌜ EachBreaks {I = I} slips ⌝ }
+    ensures count { λ r. ⌜ r ≡ length (slips {I = I}) ⌝ }
 {
-    item
+    4
 }
