@@ -38,12 +38,7 @@ pub impl<I: Copy> RingKind<I> for Crq as CrqKind {
     ) -> Result<Answer<I>, Refusal>
         ensures { λ r. ⌜ Performed (crq-step ring head number (now (worker .entry)) (now (cell .entry))) (now (worker .entry)) (now (cell .entry)) r (now (worker .exit)) (now (cell .exit)) ⌝ }
     {
-        if worker.ticket.0 > LAST_TICKET {
-            return Err(Refusal::Misfit);
-        }
-        let Phase::Kind(row) = worker.phase else {
-            return Err(Refusal::Misfit);
-        };
+        let row = row_of(worker)?;
         let found = Found::of(ring, head, number, worker);
         take_turn(found, row, worker, cell)
     }
