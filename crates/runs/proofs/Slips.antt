@@ -66,4 +66,5 @@ module _ {I : Type 0} where
     less = both (step-of difference) (puts w1 i 8 (steps w2 4 (gets w3 6 (gets w2 1 (puts w1 i 7 []))))) 2 refl refl
 
   pub slips-break : I → EachBreaks {I = I} slips
+  unfolding EachBreaks
   slips-break i = (left i, (once i, (first i, (less i, tt))))

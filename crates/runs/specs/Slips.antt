@@ -75,6 +75,6 @@ module _ {I : Type 0} where
   slips = token-left ∷ read-once ∷ head-first ∷ difference ∷ []
 
   -- with each of these rows the books of some run do not close
-  abbrev pub EachBreaks : List (KindRows I) → Type 0
+  unfoldable pub EachBreaks : List (KindRows I) → Type 0
   EachBreaks [] = Unit {0}
   EachBreaks (rows ∷ others) = (BooksClose (step-of rows) → ⊥) × EachBreaks others
