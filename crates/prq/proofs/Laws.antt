@@ -24,10 +24,12 @@ use Rattle.ring.proofs.Orderly.{drawn, Orderly}
 use Rattle.ring.proofs.Rounds.{later-round}
 use Rattle.ring.proofs.Values.{free-item}
 use Rattle.ring.proofs.Writes.{cell-was, cell-here, cell-else}
+use Rattle.turns.specs.Worked.{at}
 use Rattle.prq.specs.Barred.{AtDoor, Unlocked, Clear, Bars, prq-barred}
 use Rattle.prq.specs.Rows.{prq-step}
+use Rattle.prq.proofs.AfterTurn.{own-promise, turn-seen, lock-after, not-locking, free-after, known-at-door, clear-after, unlocked-else, clear-else}
 use Rattle.prq.proofs.Effects.{plain, Effect, enters, looks, late, puts-token, empties, sets-item, takes-item, raises, lifts, marks, effect}
-use Rattle.prq.proofs.Invariant.{own-promise, turn-seen, lock-after, not-locking, free-after, known-at-door, clear-after, unlocked-else, clear-else, unlocked-framed, clear-framed}
+use Rattle.prq.proofs.Framed.{unlocked-framed, clear-framed}
 use Rattle.prq.proofs.Keys.{key, key-epoch}
 use Rattle.prq.proofs.Promises.{AtRow, Promised}
 use Rattle.prq.proofs.Turns.{did-turn}

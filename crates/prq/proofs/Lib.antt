@@ -2,6 +2,10 @@ pub mod Turns
 pub mod Keys
 pub mod Promises
 pub mod Effects
+pub mod AfterTurn
+pub mod Others
+pub mod Own
+pub mod Framed
 pub mod Invariant
 pub mod Laws
 pub mod RoundTrip

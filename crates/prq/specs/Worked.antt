@@ -39,5 +39,5 @@ prq-runs a b c =
     ∷ []
 
 -- each of them comes out as told, whatever the items are
-abbrev pub PrqRunsStand : Type 0 → Type 0
+unfoldable pub PrqRunsStand : Type 0 → Type 0
 PrqRunsStand I = (a b c : I) → AllComeOut prq-step (prq-runs a b c)

