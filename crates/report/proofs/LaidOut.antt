@@ -12,7 +12,8 @@ use Rattle.ring.specs.declared.table.Cell.{Cell}
 use Rattle.ring.specs.declared.table.Worker.{Worker}
 use Rattle.ring.specs.declared.control.Control.{Control}
 use Rattle.ring.specs.Table.{Counters, Table, InRange, laid-out}
-use Rattle.calls.specs.Promise.{counters, table}
+use Rattle.engine.specs.Engine.{counters}
+use Rattle.calls.specs.Promise.{table}
 use Rattle.calls.specs.Laying.{Laying, ring-fits, crew-fits, laid, laying}
 
 pub laid-table : {I : Type 0} (cs cs′ : List (Cell I)) (ws ws′ : List (Worker I)) (c : Control) → InRange (length cs) (length ws)

@@ -15,7 +15,7 @@ ghost use lib.ListN.{length};
 ghost use mathlib.Core.List.{List};
 use crate::call_line::*;
 use crate::error::*;
-use calls::make::make_call;
+use sequence::make::make_call;
 use columns::WriteRefusal;
 use items::ItemKind;
 use play::header::ItemChoice;
