@@ -15,7 +15,6 @@ ghost use lib.ListN.{length};
 ghost use mathlib.Core.List.{List};
 use crate::call_line::*;
 use crate::error::*;
-use sequence::make::make_call;
 use columns::WriteRefusal;
 use items::ItemKind;
 use play::header::ItemChoice;
@@ -26,6 +25,7 @@ use ring::call::Call;
 use ring::control::Control;
 use ring::kind::RingKind;
 use ring::table::*;
+use sequence::make::make_call;
 use tickets::WorkerNo;
 
 // Prints the line of a call, if it has one.

@@ -46,7 +46,10 @@ fn assign_next(
 }
 
 fn run(control: &mut Control, cells: &mut [Cell<u32>], workers: &mut [Worker<u32>]) -> Tally {
-    let mut tally = Tally { placed: 0, taken: 0 };
+    let mut tally = Tally {
+        placed: 0,
+        taken: 0,
+    };
     let mut enqueues = [true; 7];
     for turn in 0..STEPS {
         let at = (turn % 7) as usize;
@@ -76,7 +79,10 @@ fn main(rt: LibcRuntime) -> Result<(), AnyError> {
             let tail = control.tail;
             let placed = tally.placed;
             let taken = tally.taken;
-            println!(rt, "Head {head}, Tail {tail}, placed {placed}, taken {taken}")?;
+            println!(
+                rt,
+                "Head {head}, Tail {tail}, placed {placed}, taken {taken}"
+            )?;
             Ok(())
         }
         Err(_) => Err("the table was not laid out".into()),
