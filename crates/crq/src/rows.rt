@@ -124,7 +124,7 @@ fn d8<I: Copy>(
 }
 
 // The row that the worker stands at. CRQ has no others.
-pub fn take_turn<I: Copy>(
+pub(crate) fn take_turn<I: Copy>(
     found: Found,
     row: KindRow,
     worker: &mut Worker<I>,

@@ -154,7 +154,7 @@ fn d8<I: Copy>(
 }
 
 // The row that the worker stands at.
-pub fn take_turn<I: Copy>(
+pub(crate) fn take_turn<I: Copy>(
     found: Found,
     row: KindRow,
     worker: &mut Worker<I>,
