@@ -1,4 +1,4 @@
-// The same ten million steps as crates/step_bench, in plain Rust: rustc -O bench/steps.rs
+// The same ten million steps as crates/step_bench, in plain Rust: rustc -O --edition 2021 bench/steps.rs
 #[derive(Clone, Copy, PartialEq)]
 enum Phase { Idle, E1, E2, E3, E4, E5, E6, E7, E8, E9, E10, E11, D1, D2, D3, D4, D5, D6, D7, D8, D9 }
 #[derive(Clone, Copy, PartialEq)]
