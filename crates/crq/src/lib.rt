@@ -52,6 +52,7 @@ pub fn crq_books_close<I: Copy>() -> u8
     books_close::<I, Crq>()
 }
 
+// By computation.
 fn come_out<I: Copy>()
     ensures { λ _. ⌜ CrqRunsStand I ⌝ }
 {}

@@ -52,6 +52,7 @@ pub fn prq_books_close<I: Copy>() -> u8
     books_close::<I, Prq>()
 }
 
+// By computation.
 fn come_out<I: Copy>()
     ensures { λ _. ⌜ PrqRunsStand I ⌝ }
 {}

@@ -4,6 +4,7 @@ ghost use lib.ListN.{length};
 ghost use Rattle.runs.specs.Runs.{worked-runs, WorkedRunsStand};
 ghost use Rattle.runs.specs.Slips.{slips, EachBreaks};
 
+// By computation.
 fn come_out<I: Copy>()
     ensures { λ _. ⌜ WorkedRunsStand I ⌝ }
 {}
@@ -17,6 +18,7 @@ pub fn worked_runs_stand<I: Copy>() -> u8
     8
 }
 
+// A run for each slip, by computation.
 fn break_books<I: Copy>(item: I)
     ensures { λ _. ⌜ EachBreaks {I = I} slips ⌝ }
 {}
