@@ -2,7 +2,7 @@
 ghost use mathlib.Core.Path.{_≡_};
 ghost use lib.ListN.{length, replicate};
 
-pub fn fill<T: Copy>(places: &mut [T], value: T)
+pub(crate) fn fill<T: Copy>(places: &mut [T], value: T)
     ensures { λ _. ⌜ now (places .exit) ≡ replicate (length (now (places .entry))) value ⌝ }
 {
     for place in places.iter_mut() {

@@ -12,14 +12,14 @@ use ring::control::Control;
 use ring::table::*;
 use tickets::*;
 
-pub fn sizes_agree<I: Copy>(control: &Control, cells: &[Cell<I>], workers: &[Worker<I>]) -> bool
+pub(crate) fn sizes_agree<I: Copy>(control: &Control, cells: &[Cell<I>], workers: &[Worker<I>]) -> bool
     ensures value { λ r. ⌜ r ≡ counts-agree (table (now (control .entry)) (now (cells .entry)) (now (workers .entry))) ⌝ }
     ensures means { λ r. ⌜ (r ≡ true → (length (now (cells .entry)) ≡ now (control .entry) .cells) × (length (now (workers .entry)) ≡ now (control .entry) .workers)) ⌝ }
 {
     cells.len() == control.cells as usize && workers.len() == control.workers as usize
 }
 
-pub fn on_crew(control: &Control, number: WorkerNo) -> bool
+pub(crate) fn on_crew(control: &Control, number: WorkerNo) -> bool
     ensures value { λ r. ⌜ r ≡ (leb 1 (number .0) && leb (number .0) (now (control .entry) .workers)) ⌝ }
     ensures means { λ r. ⌜ (r ≡ true → (1 ≤ number .0) × (number .0 ≤ now (control .entry) .workers)) ⌝ }
 {
@@ -27,7 +27,7 @@ pub fn on_crew(control: &Control, number: WorkerNo) -> bool
 }
 
 // The phase of a worker.
-pub fn phase_of<I: Copy>(workers: &[Worker<I>], number: WorkerNo) -> Phase
+pub(crate) fn phase_of<I: Copy>(workers: &[Worker<I>], number: WorkerNo) -> Phase
     requires { ⌜ 1 ≤ number .0 ⌝ ∗ ⌜ number .0 - 1 < length (now workers) ⌝ }
     ensures { λ r. ⌜ r ≡ getD (now (workers .entry)) (number .0 - 1) idle-worker .phase ⌝ }
 {
@@ -35,7 +35,7 @@ pub fn phase_of<I: Copy>(workers: &[Worker<I>], number: WorkerNo) -> Phase
 }
 
 // A worker is idle: its phase alone says so.
-pub fn is_idle<I: Copy>(workers: &[Worker<I>], number: WorkerNo) -> bool
+pub(crate) fn is_idle<I: Copy>(workers: &[Worker<I>], number: WorkerNo) -> bool
     requires { ⌜ 1 ≤ number .0 ⌝ ∗ ⌜ number .0 - 1 < length (now workers) ⌝ }
     ensures { λ r. ⌜ r ≡ is-idle (getD (now (workers .entry)) (number .0 - 1) idle-worker .phase) ⌝ }
 {
