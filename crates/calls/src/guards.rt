@@ -12,7 +12,11 @@ use ring::control::Control;
 use ring::table::*;
 use tickets::*;
 
-pub(crate) fn sizes_agree<I: Copy>(control: &Control, cells: &[Cell<I>], workers: &[Worker<I>]) -> bool
+pub(crate) fn sizes_agree<I: Copy>(
+    control: &Control,
+    cells: &[Cell<I>],
+    workers: &[Worker<I>],
+) -> bool
     ensures value { λ r. ⌜ r ≡ counts-agree (table (now (control .entry)) (now (cells .entry)) (now (workers .entry))) ⌝ }
     ensures means { λ r. ⌜ (r ≡ true → (length (now (cells .entry)) ≡ now (control .entry) .cells) × (length (now (workers .entry)) ≡ now (control .entry) .workers)) ⌝ }
 {
