@@ -33,7 +33,7 @@ fn explain_line(rt: &LibcRuntime, line: usize, fault: LineFault) -> Result<(), A
 }
 
 // One sentence on standard error: where the fault stands and what was expected.
-pub fn explain(rt: &LibcRuntime, fault: PlayFault) -> Result<(), AnyError> {
+pub(crate) fn explain(rt: &LibcRuntime, fault: PlayFault) -> Result<(), AnyError> {
     match fault {
         PlayFault::Long => eprintln!(rt, "line 1, column 1: a play has at most 60000 bytes")?,
         PlayFault::Header { line } => eprintln!(
