@@ -3,6 +3,8 @@
 // Promises: each call leaves the table, and answers or refuses, as the definitions say, on every memory; and the books of
 // the run that it continues close, whole.
 // Rests on: tickets, ring, engine; the step also on the ring kind that it is given.
+#![tactic(auto)]
+
 pub mod assign;
 mod fill;
 mod guards;

@@ -3,6 +3,8 @@
 // Promises: a field is read as the number whose text its columns are, as 24 exactly where that is out of range, and as 23
 // exactly where they are no number's text; a writer gives that text, or 18 and then 24 with the buffer as it was.
 // Rests on: no other crate.
+#![tactic(auto)]
+
 mod fault;
 mod reading;
 mod refusal;

@@ -1,5 +1,7 @@
 // Makes the worked runs by the calls on a table and prints what they tell: run, answer, ticket and step.
 // The same runs are proved as one table in crate runs; here the code makes them, and the output is compared.
+#![tactic(auto)]
+
 ghost use Rattle.std.specs.Prelude.{ℕ, ◌<◌};
 
 use calls::assign::*;

@@ -1,5 +1,7 @@
 // Prints the report of each play that is named, and of a play with a byte too many.
 // The plays stand in data/, each beside its report; the whole output is compared.
+#![tactic(auto)]
+
 use anyhow::anyhow;
 use play::play::LONGEST;
 use report::report::report;

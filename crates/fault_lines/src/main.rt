@@ -1,5 +1,7 @@
 // Reads plays, one to a line with `|` for LF, `~` for NUL, `^` for CR and `@` for byte 200, and prints the fault line of each, or that it has none.
 // Many faulty plays in one run; the output is compared.
+#![tactic(auto)]
+
 use anyhow::anyhow;
 use play::fault_line::{FAULT_LINE, write_fault};
 use play::play::read_play;

@@ -1,5 +1,7 @@
 // Calls on memory with any contents: each prints the number of its answer or refusal.
 // Records and cells that no run leads to get exact answers too; the output is compared.
+#![tactic(auto)]
+
 ghost use Rattle.std.specs.Prelude.{ℕ, ◌≤◌};
 
 use calls::assign::*;

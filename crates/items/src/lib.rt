@@ -3,6 +3,8 @@
 // Promises: what an item writes reads back as that item, columns that are accepted are those that the item writes, and the
 // first faulty field from the left is told.
 // Rests on: columns.
+#![tactic(auto)]
+
 mod item;
 mod job;
 mod number;

@@ -3,6 +3,8 @@
 // Promises: for every byte string, its first fault in line order or its header and orders; and bytes without fault are
 // exactly the text of what they say.
 // Rests on: tickets, columns, items.
+#![tactic(auto)]
+
 mod body;
 pub mod fault;
 pub mod fault_line;

@@ -3,6 +3,8 @@
 // Promises: `perform` is PRQ's row on every input; PRQ keeps the seven laws, so the books of its every run close; its
 // worked runs come out as told.
 // Rests on: tickets, ring, turns.
+#![tactic(auto)]
+
 mod rows;
 
 ghost use Rattle.std.specs.Prelude.{◌≡◌, length};

@@ -3,6 +3,8 @@
 // Promises: the text is exactly the report that the definitions give for the bytes, every line of it fits its columns, and
 // the books of the run that it reports close, whole. Only memory can be wanting.
 // Rests on: every library but runs; it is the top of the tree.
+#![tactic(auto)]
+
 mod error;
 mod player;
 pub mod report;

@@ -3,6 +3,8 @@
 // Promises: whatever keeps the laws, nothing is counted twice or left out, for every list of calls (`theorem`); and the
 // numbers, comparisons and fresh records that rows use are those of the definitions.
 // Rests on: tickets.
+#![tactic(auto)]
+
 pub mod answers;
 pub mod call;
 pub mod compare;

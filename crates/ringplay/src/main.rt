@@ -1,6 +1,8 @@
 // Reads a play from standard input and prints its report on standard output.
 // A fault also gets one sentence on standard error. Status 0, unless a stream fails or memory runs out.
 // All that matters is in the library `report`; what is printed is compared with a stored report.
+#![tactic(auto)]
+
 mod sentence;
 
 use crate::sentence::explain;

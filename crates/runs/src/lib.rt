@@ -2,6 +2,8 @@
 // For: readers who want to see that the definitions do what the examples say, and that the laws are not idle.
 // Promises: every worked run comes out as told; with each of four slips in PRQ's rows the books of some run do not close.
 // Rests on: tickets, ring, turns, prq, crq.
+#![tactic(auto)]
+
 ghost use Rattle.std.specs.Prelude.{◌≡◌, length};
 ghost use Rattle.runs.specs.Runs.{worked_runs, WorkedRunsStand};
 ghost use Rattle.runs.specs.Slips.{slips, EachBreaks};

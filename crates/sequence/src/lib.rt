@@ -3,5 +3,7 @@
 // Promises: `make_calls` lays out, makes the calls that it has room for and leaves a table whose books close, with no
 // hypothesis; `make_call` promises what the call that it makes promises.
 // Rests on: tickets, ring, engine, calls.
+#![tactic(auto)]
+
 pub mod make;
 pub mod sequence;

@@ -1,5 +1,7 @@
 // Ten million steps by turns on a PRQ of 64 cells with 7 workers. Each worker enqueues and dequeues in turn.
 // It prints the counts, which are compared; docs/PERFORMANCE.md has the times.
+#![tactic(auto)]
+
 use anyhow::anyhow;
 use calls::assign::*;
 use calls::lay_out::lay_out;

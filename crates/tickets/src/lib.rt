@@ -2,6 +2,8 @@
 // For: every crate that speaks of a ring. `round` and `slot` are the only ways from a ticket to an epoch and to a cell.
 // Promises: the round is the whole quotient by the number of cells and the slot the remainder, for every number of cells.
 // Rests on: no other crate.
+#![tactic(auto)]
+
 ghost use Rattle.std.specs.Prelude.{◌≡◌, ℕ, ◌<◌};
 ghost use Rattle.tickets.specs.Places.{round, slot};
 

@@ -3,6 +3,8 @@
 // Promises: each function leaves record and cell, and answers, as the definition of the same name in ring says; a row that
 // is not the kind's, or a ticket above the limit, is 13.
 // Rests on: tickets, ring.
+#![tactic(auto)]
+
 pub mod found;
 
 ghost use Rattle.std.specs.Prelude.{◌≡◌, if◌then◌else◌, Ok, nat_le};
