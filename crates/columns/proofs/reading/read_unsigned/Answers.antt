@@ -8,7 +8,7 @@ pub returns-in-Some : goal.returns-in-Some
 unfolding unsigned_reading
 returns-in-Some c =
     let cs = c.args.columns.now in
-    let e : c.unsigned-within.result ≡ unsigned_of c.args.least c.args.most (number cs) = c.unsigned-within.ensures ∙ unsigned_some _ _ _ (number cs) (omega arith) c.in-Some.ensures in
+    let e : c.unsigned_within.result ≡ unsigned_of c.args.least c.args.most (number cs) = c.unsigned_within.ensures ∙ unsigned_some _ _ _ (number cs) (omega arith) c.in-Some.ensures in
     let h = unsigned_relates _ _ cs _ e in
     record { value = e; relation = h; only = unsigned_alone _ _ cs _ e; bound = unsigned_bound _ _ cs _ h }
 

@@ -6,13 +6,13 @@ use Rattle.columns.specs.Row.{row_fits}
 use Rattle.columns.proofs.Rows.{no_field, plain_text, fits_more}
 use Rattle.columns.proofs.row.all_fit.Goals as goal
 
-pub returns-then-digit-count-field : goal.returns-then-digit-count-field
-returns-then-digit-count-field c =
+pub returns-then-digit_count-field : goal.returns-then-digit_count-field
+returns-then-digit_count-field c =
     let fs = c.args.fields.now in
     let i = c.loop-field.field-index in
     let n = (get_or fs i no_field).number in
     let w = (get_or fs i no_field).width in
-    let wide : leb (length (text (pos n))) w ≡ false = lt-leb (length (text (pos n))) w (omega (arith, ap length (plain_text n), c.digit-count.ensures.value, c.if-digit-count-field.true)) in
+    let wide : leb (length (text (pos n))) w ≡ false = lt-leb (length (text (pos n))) w (omega (arith, ap length (plain_text n), c.digit_count.ensures.value, c.if-digit_count-field.true)) in
     sym (sym c.loop-field.invariant ∙ fits_more fs i c.loop-field-test.true ∙ and_left (leb (length (text (pos n))) w) (row_fits (drop (i + 1) fs)) wide)
 
 pub loop-field-preserved : goal.loop-field-preserved
@@ -21,7 +21,7 @@ loop-field-preserved c =
     let i = c.loop-field.field-index in
     let n = (get_or fs i no_field).number in
     let w = (get_or fs i no_field).width in
-    let fits : leb (length (text (pos n))) w ≡ true = le-leb (length (text (pos n))) w (omega (arith, ap length (plain_text n), c.digit-count.ensures.value, c.if-digit-count-field.false)) in
+    let fits : leb (length (text (pos n))) w ≡ true = le-leb (length (text (pos n))) w (omega (arith, ap length (plain_text n), c.digit_count.ensures.value, c.if-digit_count-field.false)) in
     sym (fits_more fs i c.loop-field-test.true ∙ ap (λ b. b && row_fits (drop (i + 1) fs)) fits) ∙ c.loop-field.invariant
 
 pub returns : goal.returns

@@ -8,11 +8,11 @@ use Rattle.columns.proofs.Laws.{length_field}
 use Rattle.columns.proofs.Rows.{no_field, width_more, text_more, fits_more, fills, row_turn}
 use Rattle.columns.proofs.row.fill_row.Goals as goal
 
-pub overflow-add-end : goal.overflow-add-end
-overflow-add-end c = let more = width_more c.args.fields.now c.loop-field.field-index c.loop-field-test.true in search rules
+pub overflow_add-end : goal.overflow_add-end
+overflow_add-end c = let more = width_more c.args.fields.now c.loop-field.field-index c.loop-field-test.true in search rules
 
-pub slice-bounds-write-unsigned-end : goal.slice-bounds-write-unsigned-end
-slice-bounds-write-unsigned-end c = let more = width_more c.args.fields.now c.loop-field.field-index c.loop-field-test.true in search rules
+pub slice_bounds-write_unsigned-end : goal.slice_bounds-write_unsigned-end
+slice_bounds-write_unsigned-end c = let more = width_more c.args.fields.now c.loop-field.field-index c.loop-field-test.true in search rules
 
 pub loop-field-preserved : goal.loop-field-preserved
 loop-field-preserved c =
@@ -22,12 +22,12 @@ loop-field-preserved c =
     let n = (get_or fs i no_field).number in
     let w = (get_or fs i no_field).width in
     let xs = c.loop-field.columns in
-    let ys = c.write-unsigned.new.buffer in
+    let ys = c.write_unsigned.new.buffer in
     let more = width_more fs i c.loop-field-test.true in
     let fit = and_parts (leb (length (text (pos n))) w) (row_fits (drop (i + 1) fs)) (sym (fits_more fs i c.loop-field-test.true) ∙ c.loop-field.invariant.1) in
     let wide : at + w - at ≡ w = omega arith in
     let part : length (take (at + w - at) (drop at xs)) ≡ w = length-take-le (at + w - at) (drop at xs) (omega (arith, length-drop at xs)) ∙ wide in
-    let is = fills w n (take (at + w - at) (drop at xs)) c.write-unsigned.result ys part fit.0 c.write-unsigned.ensures in
+    let is = fills w n (take (at + w - at) (drop at xs)) c.write_unsigned.result ys part fit.0 c.write_unsigned.ensures in
     let len : length ys ≡ w = ap length is ∙ length_field w (pos n) (leb-true (length (text (pos n))) w fit.0) in
     let long : length (put_mid at (at + w - at) xs ys) ≡ length xs = search (rules, places) in
     (omega arith, fit.1, row_turn fs i c.loop-field-test.true at (at + w - at) xs ys (row_text fs) (omega arith) len is c.loop-field.invariant.2)

@@ -4,8 +4,8 @@ use Rattle.columns.proofs.Texts.{high}
 use Rattle.columns.proofs.Writers.{length_digits_last, digits_begun, digits_turn, digits_ended}
 use Rattle.columns.proofs.writing.write_digits.Goals as goal
 
-pub overflow-sub-last : goal.overflow-sub-last
-overflow-sub-last c = omega (arith, length_digits_last c.args.n)
+pub overflow_sub-last : goal.overflow_sub-last
+overflow_sub-last c = omega (arith, length_digits_last c.args.n)
 
 pub bounds-columns-last : goal.bounds-columns-last
 bounds-columns-last c = omega (arith, length_digits_last c.args.n)

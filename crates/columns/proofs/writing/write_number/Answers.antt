@@ -12,8 +12,8 @@ returns-then-width-digits c = written_wide c.args.width c.args.negative c.args.m
 
 pub returns : goal.returns
 returns c =
-    let start = c.args.width - c.digit-count-digits.result in
+    let start = c.args.width - c.digit_count-digits.result in
     let n : length (take (start - 0) c.args.buffer.now) ≡ start = length-take-le (start - 0) c.args.buffer.now (omega arith) ∙ omega arith in
-    written_parts c.args.width c.args.negative c.args.magnitude start (c.args.width - start) c.args.buffer.now c.write-front.new.columns c.write-digits.new.columns
-    c.requires (omega arith) (omega arith) (ap (λ d. c.args.width - d) c.digit-count-digits.ensures.value) refl
-    (c.write-front.ensures ∙ ap (λ k. front k c.args.negative) n) c.write-digits.ensures
+    written_parts c.args.width c.args.negative c.args.magnitude start (c.args.width - start) c.args.buffer.now c.write_front.new.columns c.write_digits.new.columns
+    c.requires (omega arith) (omega arith) (ap (λ d. c.args.width - d) c.digit_count-digits.ensures.value) refl
+    (c.write_front.ensures ∙ ap (λ k. front k c.args.negative) n) c.write_digits.ensures
