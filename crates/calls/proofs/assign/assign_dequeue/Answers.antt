@@ -9,11 +9,11 @@ returns g c =
     let k = g.K.RingKind in
     let m = g.met.K.RingKind in
     record {
-      rows = c.dequeue-assigned.ensures;
+      rows = c.dequeue_assigned.ensures;
       books =
           continues k.step
           (books_close_by k.step k.held k.barred m.meaning m.touches_its_own m.places_free m.takes_held m.leaves_items m.passes_barred
           m.stays_barred)
           (table c.args.control.now c.args.cells.now c.args.workers.now) (AssignDequeue c.args.number)
-          (left c.args.control.now c.args.cells.now c.dequeue-assigned.new.workers c.dequeue-assigned.result) c.dequeue-assigned.ensures;
+          (left c.args.control.now c.args.cells.now c.dequeue_assigned.new.workers c.dequeue_assigned.result) c.dequeue_assigned.ensures;
     }

@@ -9,11 +9,11 @@ returns g c =
     let k = g.K.RingKind in
     let m = g.met.K.RingKind in
     record {
-      rows = c.enqueue-assigned.ensures;
+      rows = c.enqueue_assigned.ensures;
       books =
           continues k.step
           (books_close_by k.step k.held k.barred m.meaning m.touches_its_own m.places_free m.takes_held m.leaves_items m.passes_barred
           m.stays_barred)
           (table c.args.control.now c.args.cells.now c.args.workers.now) (AssignEnqueue c.args.number c.args.item)
-          (left c.args.control.now c.args.cells.now c.enqueue-assigned.new.workers c.enqueue-assigned.result) c.enqueue-assigned.ensures;
+          (left c.args.control.now c.args.cells.now c.enqueue_assigned.new.workers c.enqueue_assigned.result) c.enqueue_assigned.ensures;
     }

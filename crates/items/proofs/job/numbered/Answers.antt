@@ -9,26 +9,26 @@ use Rattle.items.specs.Jobs.{numbered_put, numbered_past}
 use Rattle.items.specs.Parts.{last}
 use Rattle.items.proofs.job.numbered.Goals as goal
 
-pub slice-bounds-columns-end-2 : goal.slice-bounds-columns-end-2
-slice-bounds-columns-end-2 c = let h : length c.copy-from-slice.new.self ≡ 6 = search rules in omega (arith, length-append c.copy-from-slice.new.self no_number)
+pub slice_bounds-columns-end-2 : goal.slice_bounds-columns-end-2
+slice_bounds-columns-end-2 c = let h : length c.copy_from_slice.new.self ≡ 6 = search rules in omega (arith, length-append c.copy_from_slice.new.self no_number)
 
-pub returns-in-err-write-unsigned : goal.returns-in-err-write-unsigned
-returns-in-err-write-unsigned c =
-    let word = c.copy-from-slice.new.self in
+pub returns-in_err-write_unsigned : goal.returns-in_err-write_unsigned
+returns-in_err-write_unsigned c =
+    let word = c.copy_from_slice.new.self in
     let n : c.from.result ≡ c.args.n = search rules in
     let room : length word ≡ 6 = search rules in
-    let p = err_from_is_err_and c.from-residual.result c.from-residual.ensures.1 in
-    let v = written_err 9 (pos c.from.result) (take 9 (drop 6 (word ++ no_number))) c.write-unsigned.new.buffer c.write-unsigned.result c.in-err-write-unsigned.field-0.0 (ap length (last word no_number 6 9 room refl)) c.write-unsigned.ensures c.in-err-write-unsigned.was in
+    let p = err_from_is_err_and c.from_residual.result c.from_residual.ensures.1 in
+    let v = written_err 9 (pos c.from.result) (take 9 (drop 6 (word ++ no_number))) c.write_unsigned.new.buffer c.write_unsigned.result c.in_err-write_unsigned.field-0.0 (ap length (last word no_number 6 9 room refl)) c.write_unsigned.ensures c.in_err-write_unsigned.was in
     p.1 ∙ ap (λ x. Err x) (p.2 ∙ v.0)
     ∙ sym (numbered_past c.args.word.now c.args.n (subst (λ (m : ℕ). 9 < length (text (pos m))) n v.1))
 
 pub returns : goal.returns
 returns c =
-    let word = c.copy-from-slice.new.self in
+    let word = c.copy_from_slice.new.self in
     let n : c.from.result ≡ c.args.n = search rules in
     let same : word ≡ c.args.word.now = search rules in
     let room : length word ≡ 6 = search rules in
-    let v = written_ok 9 (pos c.from.result) (take 9 (drop 6 (word ++ no_number))) c.write-unsigned.new.buffer c.write-unsigned.result (ap length (last word no_number 6 9 room refl)) c.write-unsigned.ensures c.in-ok-write-unsigned.was in
-    numbered_put word no_number c.write-unsigned.new.buffer c.from.result room refl v.0 v.1
+    let v = written_ok 9 (pos c.from.result) (take 9 (drop 6 (word ++ no_number))) c.write_unsigned.new.buffer c.write_unsigned.result (ap length (last word no_number 6 9 room refl)) c.write_unsigned.ensures c.in_ok-write_unsigned.was in
+    numbered_put word no_number c.write_unsigned.new.buffer c.from.result room refl v.0 v.1
     ∙ ap (λ l. ok_or (numbered_text l c.from.result) Range) same
     ∙ ap (λ m. ok_or (numbered_text c.args.word.now m) Range) n

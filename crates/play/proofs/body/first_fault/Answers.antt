@@ -56,8 +56,8 @@ returns-in-Err-at c =
     let all : c.loop-column.column ≡ at + c.width.result = omega (arith, c.loop-column.auto.column-end (omega arith)) in
     let clear : Clear body at (at + c.width.result) = subst (Clear body at) all c.loop-column.invariant.1 in
     let wide : at + c.width.result - at ≡ c.width.result = omega arith in
-    let said = line_err c.read-order.result c.reading.line c.in-Err-at.fault (sym c.at.ensures ∙ c.in-Err-at.is) in
-    let fault = ap (λ m. order_reading c.args.items c.in-Ok.found (take m (drop at body))) (sym wide) ∙ sym c.read-order.ensures ∙ said.1 in
+    let said = line_err c.read_order.result c.reading.line c.in-Err-at.fault (sym c.at.ensures ∙ c.in-Err-at.is) in
+    let fault = ap (λ m. order_reading c.args.items c.in-Ok.found (take m (drop at body))) (sym wide) ∙ sym c.read_order.ensures ∙ said.1 in
     ap Some (sym said.2)
     ∙ sym (column_at c.args.items c.reading.line body at (omega arith) c.in-Ok.found c.width.result opens c.width.ensures (omega arith) clear c.if-body-end-ne-LF.false said.0 fault)
     ∙ c.reading.invariant.2
@@ -70,7 +70,7 @@ reading-preserved c =
     let all : c.loop-column.column ≡ at + c.width.result = omega (arith, c.loop-column.auto.column-end (omega arith)) in
     let clear : Clear body at (at + c.width.result) = subst (Clear body at) all c.loop-column.invariant.1 in
     let wide : at + c.width.result - at ≡ c.width.result = omega arith in
-    let order = line_ok c.read-order.result c.reading.line c.in-default.field-0 (sym c.at.ensures ∙ c.in-default.is) in
-    let read = ap (λ m. order_reading c.args.items c.in-Ok.found (take m (drop at body))) (sym wide) ∙ sym c.read-order.ensures ∙ order in
-    let on = goes_on_at c.args.items c.reading.line body at (omega arith) c.in-Ok.found c.width.result opens c.width.ensures (omega arith) clear c.if-body-end-ne-LF.false (plain c.in-default.field-0) read in
+    let order = line_ok c.read_order.result c.reading.line c.in_default.field-0 (sym c.at.ensures ∙ c.in_default.is) in
+    let read = ap (λ m. order_reading c.args.items c.in-Ok.found (take m (drop at body))) (sym wide) ∙ sym c.read_order.ensures ∙ order in
+    let on = goes_on_at c.args.items c.reading.line body at (omega arith) c.in-Ok.found c.width.result opens c.width.ensures (omega arith) clear c.if-body-end-ne-LF.false (plain c.in_default.field-0) read in
     (omega arith, omega arith, sym on ∙ c.reading.invariant.2)

@@ -7,8 +7,8 @@ use Rattle.play.proofs.ItemFaults.{patch_placed, job_placed, placed_fault}
 use Rattle.play.proofs.line.check_item.Goals as goal
 use Rattle.play.proofs.line.check_item.Goals.{in-Patch, in-Job}
 
-pub overflow-add-result : goal.overflow-add-result
-overflow-add-result c =
+pub overflow_add-result : goal.overflow_add-result
+overflow_add-result c =
     let found = c.in-Some.found in
     let few : found.column ≤ 15 =
     elim c.match-items.branch [

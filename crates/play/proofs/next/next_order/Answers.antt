@@ -21,14 +21,14 @@ returns-then-rest-width c = λ o more fits front.
           w.if-rest-width-ne-LF.true (ap (λ m. get_or rest m 0) c.width-width.ensures ∙ front_ends item_laws c.args.items rest o more fits front 1 c.in-Ok.letter opens)
     ]
 
-pub returns-in-Ok-read-order : goal.returns-in-Ok-read-order
-returns-in-Ok-read-order c =
+pub returns-in-Ok-read_order : goal.returns-in-Ok-read_order
+returns-in-Ok-read_order c =
     let rest = c.args.rest.now in
     let opens : order_letter 1 (letter_of (get_or rest 0 0)) ≡ Ok c.in-Ok.letter = cc in
     let none : c.width-width.result - 0 ≡ c.width-width.result = omega arith in
-    let read = ap (λ m. order_reading c.args.items c.in-Ok.letter (take m rest)) (sym none) ∙ sym c.read-order.ensures ∙ ap heard c.in-Ok-read-order.is in
-    let said = read_front item_laws c.args.items rest 1 c.width-width.result c.in-Ok.letter (plain c.in-Ok-read-order.order) opens c.width-width.ensures c.if-rest-width.false c.if-rest-width-ne-LF.false read in
-    (said.0, said.1 ∙ ap (λ x. order_text (plain c.in-Ok-read-order.order) ++ x) (sym (take_rest rest (c.width-width.result + 1))))
+    let read = ap (λ m. order_reading c.args.items c.in-Ok.letter (take m rest)) (sym none) ∙ sym c.read_order.ensures ∙ ap heard c.in-Ok-read_order.is in
+    let said = read_front item_laws c.args.items rest 1 c.width-width.result c.in-Ok.letter (plain c.in-Ok-read_order.order) opens c.width-width.ensures c.if-rest-width.false c.if-rest-width-ne-LF.false read in
+    (said.0, said.1 ∙ ap (λ x. order_text (plain c.in-Ok-read_order.order) ++ x) (sym (take_rest rest (c.width-width.result + 1))))
 
 pub returns-in-Err : goal.returns-in-Err
 returns-in-Err c = λ o more fits front.
@@ -37,5 +37,5 @@ returns-in-Err c = λ o more fits front.
     let none : c.width-width.result - 0 ≡ c.width-width.result = omega arith in
     let read = front_read item_laws c.args.items rest o more fits front 1 c.in-Ok.letter opens in
     let wide = ap (λ m. order_reading c.args.items c.in-Ok.letter (take m rest)) (none ∙ c.width-width.ensures) in
-    let said = sym (ap heard c.in-Err.is) ∙ c.read-order.ensures ∙ wide ∙ read in
+    let said = sym (ap heard c.in-Err.is) ∙ c.read_order.ensures ∙ wide ∙ read in
     never_both c.in-Err.field-0 o said

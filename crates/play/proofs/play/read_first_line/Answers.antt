@@ -14,42 +14,42 @@ use Rattle.play.proofs.play.read_first_line.Goals as goal
 pub returns-then-bytes-eq0 : goal.returns-then-bytes-eq0
 returns-then-bytes-eq0 c = record { value = sym (ap (λ bs. first_header (lines_of bs)) (nil_from_length c.args.bytes.now c.if-bytes-eq0.true)); bound = tt }
 
-pub returns-in-err-open-first : goal.returns-in-err-open-first
-returns-in-err-open-first c =
-    let p = err_from_is_err_and c.from-residual.result c.from-residual.ensures.1 in
-    let was = c.in-err-open-first.was in
-    let opens : first_letter (letter_of (get_or c.args.bytes.now 0 0)) ≡ Err c.in-err-open-first.field-0.0 = cc in
-    record { value = p.1 ∙ ap Err p.2 ∙ sym (header_letter c.args.bytes.now (omega arith) c.in-err-open-first.field-0.0 opens); bound = IfOk-from_err _ _ c.from-residual.ensures.0 }
+pub returns-in_err-open_first : goal.returns-in_err-open_first
+returns-in_err-open_first c =
+    let p = err_from_is_err_and c.from_residual.result c.from_residual.ensures.1 in
+    let was = c.in_err-open_first.was in
+    let opens : first_letter (letter_of (get_or c.args.bytes.now 0 0)) ≡ Err c.in_err-open_first.field-0.0 = cc in
+    record { value = p.1 ∙ ap Err p.2 ∙ sym (header_letter c.args.bytes.now (omega arith) c.in_err-open_first.field-0.0 opens); bound = IfOk-from_err _ _ c.from_residual.ensures.0 }
 
-pub returns-then-not-is-whole : goal.returns-then-not-is-whole
-returns-then-not-is-whole c =
-    let was = c.in-ok-open-first.was in
-    let opens : first_letter (letter_of (get_or c.args.bytes.now 0 0)) ≡ Ok c.in-ok-open-first.field-0 = cc in
-    let cut : first_whole 14 (lines_of c.args.bytes.now) ≡ false = ap (λ w. first_whole w (lines_of c.args.bytes.now)) (sym c.width-width.ensures) ∙ sym c.is-whole.ensures.value ∙ c.if-not-is-whole.true in
-    record { value = sym (header_cut c.args.bytes.now (omega arith) c.in-ok-open-first.field-0 opens cut); bound = tt }
+pub returns-then-not-is_whole : goal.returns-then-not-is_whole
+returns-then-not-is_whole c =
+    let was = c.in_ok-open_first.was in
+    let opens : first_letter (letter_of (get_or c.args.bytes.now 0 0)) ≡ Ok c.in_ok-open_first.field-0 = cc in
+    let cut : first_whole 14 (lines_of c.args.bytes.now) ≡ false = ap (λ w. first_whole w (lines_of c.args.bytes.now)) (sym c.width-width.ensures) ∙ sym c.is_whole.ensures.value ∙ c.if-not-is_whole.true in
+    record { value = sym (header_cut c.args.bytes.now (omega arith) c.in_ok-open_first.field-0 opens cut); bound = tt }
 
-pub returns-in-err-header : goal.returns-in-err-header
-returns-in-err-header c =
-    let p = err_from_is_err_and c.from-residual-in-err-header.result c.from-residual-in-err-header.ensures.1 in
-    let was = c.in-ok-open-first.was in
-    let opens : first_letter (letter_of (get_or c.args.bytes.now 0 0)) ≡ Ok c.in-ok-open-first.field-0 = cc in
-    let whole : first_whole 14 (lines_of c.args.bytes.now) ≡ true = ap (λ w. first_whole w (lines_of c.args.bytes.now)) (sym c.width-width.ensures) ∙ sym c.is-whole.ensures.value ∙ c.if-not-is-whole.false in
-    let read = header_read c.args.bytes.now (omega arith) c.in-ok-open-first.field-0 opens whole in
+pub returns-in_err-header : goal.returns-in_err-header
+returns-in_err-header c =
+    let p = err_from_is_err_and c.from_residual-in_err-header.result c.from_residual-in_err-header.ensures.1 in
+    let was = c.in_ok-open_first.was in
+    let opens : first_letter (letter_of (get_or c.args.bytes.now 0 0)) ≡ Ok c.in_ok-open_first.field-0 = cc in
+    let whole : first_whole 14 (lines_of c.args.bytes.now) ≡ true = ap (λ w. first_whole w (lines_of c.args.bytes.now)) (sym c.width-width.ensures) ∙ sym c.is_whole.ensures.value ∙ c.if-not-is_whole.false in
+    let read = header_read c.args.bytes.now (omega arith) c.in_ok-open_first.field-0 opens whole in
     let wide : c.width-width.result - 0 ≡ 14 = omega arith in
-    let was_read : c.read-header.result ≡ header_reading (take 14 c.args.bytes.now) = c.read-header.ensures ∙ ap (λ w. header_reading (take w c.args.bytes.now)) wide in
-    let said = c.in-err-header.was in
+    let was_read : c.read_header.result ≡ header_reading (take 14 c.args.bytes.now) = c.read_header.ensures ∙ ap (λ w. header_reading (take w c.args.bytes.now)) wide in
+    let said = c.in_err-header.was in
     record {
       value = p.1 ∙ ap Err p.2 ∙ sym said ∙ c.at.ensures ∙ ap (λ r. at_line r 1) was_read ∙ sym read;
-      bound = IfOk-from_err _ _ c.from-residual-in-err-header.ensures.0;
+      bound = IfOk-from_err _ _ c.from_residual-in_err-header.ensures.0;
     }
 
 pub returns : goal.returns
 returns c =
-    let was = c.in-ok-open-first.was in
-    let opens : first_letter (letter_of (get_or c.args.bytes.now 0 0)) ≡ Ok c.in-ok-open-first.field-0 = cc in
-    let whole : first_whole 14 (lines_of c.args.bytes.now) ≡ true = ap (λ w. first_whole w (lines_of c.args.bytes.now)) (sym c.width-width.ensures) ∙ sym c.is-whole.ensures.value ∙ c.if-not-is-whole.false in
-    let read = header_read c.args.bytes.now (omega arith) c.in-ok-open-first.field-0 opens whole in
+    let was = c.in_ok-open_first.was in
+    let opens : first_letter (letter_of (get_or c.args.bytes.now 0 0)) ≡ Ok c.in_ok-open_first.field-0 = cc in
+    let whole : first_whole 14 (lines_of c.args.bytes.now) ≡ true = ap (λ w. first_whole w (lines_of c.args.bytes.now)) (sym c.width-width.ensures) ∙ sym c.is_whole.ensures.value ∙ c.if-not-is_whole.false in
+    let read = header_read c.args.bytes.now (omega arith) c.in_ok-open_first.field-0 opens whole in
     let wide : c.width-width.result - 0 ≡ 14 = omega arith in
-    let was_read : c.read-header.result ≡ header_reading (take 14 c.args.bytes.now) = c.read-header.ensures ∙ ap (λ w. header_reading (take w c.args.bytes.now)) wide in
-    let said = c.in-ok-header.was in
+    let was_read : c.read_header.result ≡ header_reading (take 14 c.args.bytes.now) = c.read_header.ensures ∙ ap (λ w. header_reading (take w c.args.bytes.now)) wide in
+    let said = c.in_ok-header.was in
     record { value = sym said ∙ c.at.ensures ∙ ap (λ r. at_line r 1) was_read ∙ sym read; bound = (whole_shape 14 c.args.bytes.now whole).room }

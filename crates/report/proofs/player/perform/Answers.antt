@@ -7,14 +7,14 @@ use Rattle.report.specs.Running.{caller, has_line, performed, printed}
 use Rattle.report.proofs.Errors.{print_failed}
 use Rattle.report.proofs.player.perform.Goals as goal
 
-pub returns-in-err-print-call : goal.returns-in-err-print-call
-returns-in-err-print-call g c =
-    let p = err_from_is_err_and c.from-residual.result c.from-residual.ensures.1 in
+pub returns-in_err-print_call : goal.returns-in_err-print_call
+returns-in_err-print_call g c =
+    let p = err_from_is_err_and c.from_residual.result c.from_residual.ensures.1 in
     let text = g.I.ItemKind.text in
     let n = c.args.calls.now + 1 in
-    let reply = c.make-call-reply.result in
-    let same = ap (λ x. printed text n (caller c.args.call) x) (sym (ap (λ (o : Outcome g.row.I.Denot). o.answer) c.make-call-reply.ensures.rows)) ∙ ap (λ w. printed text n w reply) (sym c.caller-of.ensures) in
+    let reply = c.make_call-reply.result in
+    let same = ap (λ x. printed text n (caller c.args.call) x) (sym (ap (λ (o : Outcome g.row.I.Denot). o.answer) c.make_call-reply.ensures.rows)) ∙ ap (λ w. printed text n w reply) (sym c.caller_of.ensures) in
     rw (p.1, p.2)
-    (print_failed c.in-err-print-call.field-0.0 (printed text n c.caller-of.result reply) (vec_items c.args.out.now) (vec_items c.print-call.new.out)
+    (print_failed c.in_err-print_call.field-0.0 (printed text n c.caller_of.result reply) (vec_items c.args.out.now) (vec_items c.print_call.new.out)
     (performed text g.K.RingKind.step (running c.args.control.now c.args.cells.now c.args.workers.now c.args.calls.now (vec_items c.args.out.now)) c.args.call)
-    c.in-err-print-call.ensures (λ e. ap has_line same ∙ e))
+    c.in_err-print_call.ensures (λ e. ap has_line same ∙ e))

@@ -10,9 +10,9 @@ use Rattle.report.proofs.Errors.{failed_on}
 use Rattle.report.proofs.Orders.{order_few, order_shorter, orders_unwritten}
 use Rattle.report.proofs.player.play_body.Goals as goal
 
-pub returns-in-err-play-order : goal.returns-in-err-play-order
-returns-in-err-play-order g c = λ os e f.
-    let p = err_from_is_err_and c.from-residual.result c.from-residual.ensures.1 in
+pub returns-in_err-play_order : goal.returns-in_err-play_order
+returns-in_err-play_order g c = λ os e f.
+    let p = err_from_is_err_and c.from_residual.result c.from_residual.ensures.1 in
     let all = all_ordered g.I.ItemKind.text g.I.ItemKind.reading g.K.RingKind.step in
     let o = plain c.in-Some.next.order in
     let s = running c.loop-next.control c.loop-next.cells c.loop-next.workers c.loop-next.calls (vec_items c.loop-next.out) in
@@ -21,7 +21,7 @@ returns-in-err-play-order g c = λ os e f.
     let k = c.loop-next.invariant.1 os e f in
     let front = next_some item_laws c.args.items c.loop-next.rest.now c.in-Some.next k.0 c.in-Some.ensures k.1 k.2 in
     rw (p.1, p.2)
-    (failed_on c.in-err-play-order.field-0.0 t (all os s0) c.in-err-play-order.ensures.ran
+    (failed_on c.in_err-play_order.field-0.0 t (all os s0) c.in_err-play_order.ensures.ran
     (λ h. ap (λ (x : Running g.row.I.Denot). x.written) (sym k.3 ∙ ap (λ l. all l s) front.are) ∙ orders_unwritten g.I.ItemKind.text g.I.ItemKind.reading g.K.RingKind.step front.others t h))
 
 pub loop-next-smaller : goal.loop-next-smaller
@@ -34,7 +34,7 @@ loop-next-preserved g c =
     let said = c.in-Some.ensures in
     let all = all_ordered g.I.ItemKind.text g.I.ItemKind.reading g.K.RingKind.step in
     let s = running c.loop-next.control c.loop-next.cells c.loop-next.workers c.loop-next.calls (vec_items c.loop-next.out) in
-    let ran = c.in-ok-play-order.ensures in (
+    let ran = c.in_ok-play_order.ensures in (
       omega
           (arith, c.loop-next.invariant.0, ran.few, order_few c.args.items (plain c.in-Some.next.order) said.0, order_shorter (plain c.in-Some.next.order) c.loop-next.rest.now c.in-Some.next.rest.now said.1),
       λ os e f.
@@ -48,6 +48,6 @@ returns g c = λ os e f.
     let all = all_ordered g.I.ItemKind.text g.I.ItemKind.reading g.K.RingKind.step in
     let s = running c.loop-next.control c.loop-next.cells c.loop-next.workers c.loop-next.calls (vec_items c.loop-next.out) in
     let k = c.loop-next.invariant.1 os e f in
-    let none = next_none item_laws c.args.items c.loop-next.rest.now k.0 c.in-default.ensures k.1 k.2 in
+    let none = next_none item_laws c.args.items c.loop-next.rest.now k.0 c.in_default.ensures k.1 k.2 in
     let whole = ap (λ l. all l s) (sym none) ∙ k.3 in
     (ap (λ (x : Running g.row.I.Denot). x.table) whole, ap (λ (x : Running g.row.I.Denot). x.text) whole, ap (λ (x : Running g.row.I.Denot). x.written) (sym whole))

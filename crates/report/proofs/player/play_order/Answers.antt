@@ -39,7 +39,7 @@ returns-in-Steps g c =
     let text = g.I.ItemKind.text in
     let reading = g.I.ItemKind.reading in
     let step = g.K.RingKind.step in
-    let a = c.step-on in
+    let a = c.step_on in
     let s = running c.args.control.now c.args.cells.now c.args.workers.now c.args.calls.now (vec_items c.args.out.now) in
     let t = running a.new.control a.new.cells a.new.workers a.new.calls (vec_items a.new.out) in
     record {

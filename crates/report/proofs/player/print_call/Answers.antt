@@ -9,12 +9,12 @@ use Rattle.report.proofs.player.print_call.Goals as goal
 pub returns : goal.returns
 returns g c =
     let text = g.I.ItemKind.text in
-    let line = c.write-call.new.buffer in
+    let line = c.write_call.new.buffer in
     let before = vec_items c.args.out.now in
-    let is = line_done (call_line text c.args.call c.args.worker c.args.reply) (replicate 45 0) line c.in-default.field-0 refl
-    (line_wide text g.met.I.ItemKind.wide c.args.call c.args.worker c.args.reply) (ap (λ x. (x, line)) (sym c.in-default.is) ∙ c.write-call.ensures) in
+    let is = line_done (call_line text c.args.call c.args.worker c.args.reply) (replicate 45 0) line c.in_default.field-0 refl
+    (line_wide text g.met.I.ItemKind.wide c.args.call c.args.worker c.args.reply) (ap (λ x. (x, line)) (sym c.in_default.is) ∙ c.write_call.ensures) in
     let shows = cond-true (is_printed c.args.reply) _ _ (sym c.prints.ensures ∙ c.if-not-prints.false) ∙ is in
-    let was = c.in-ok-extend-from-slice.was in (
+    let was = c.in_ok-extend_from_slice.was in (
       ap has_line shows,
-      c.extend-from-slice.ensures.items ∙ ap (λ r. cond (is_ok r) (before ++ line) before) was ∙ ap (λ x. before ++ line_bytes x) (sym shows),
+      c.extend_from_slice.ensures.items ∙ ap (λ r. cond (is_ok r) (before ++ line) before) was ∙ ap (λ x. before ++ line_bytes x) (sym shows),
     )

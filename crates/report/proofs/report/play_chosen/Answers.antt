@@ -10,7 +10,7 @@ use Rattle.report.proofs.report.play_chosen.Goals as goal
 pub returns-in-Crq-Patch : goal.returns-in-Crq-Patch
 returns-in-Crq-Patch c =
     let h = c.args.header in
-    let a = c.play-on in
+    let a = c.play_on in
     record {
       text = λ os e f.
           subst (λ x. Reported a.result (chosen_run x h.items h.cells h.workers os)) (sym c.in-Crq-Patch.is-0)
@@ -26,7 +26,7 @@ returns-in-Crq-Patch c =
 pub returns-in-Crq-Job : goal.returns-in-Crq-Job
 returns-in-Crq-Job c =
     let h = c.args.header in
-    let a = c.play-on-in-Crq-Job in
+    let a = c.play_on-in-Crq-Job in
     record {
       text = λ os e f.
           subst (λ x. Reported a.result (chosen_run x h.items h.cells h.workers os)) (sym c.in-Crq-Job.is-0)
@@ -42,7 +42,7 @@ returns-in-Crq-Job c =
 pub returns-in-Prq-Patch : goal.returns-in-Prq-Patch
 returns-in-Prq-Patch c =
     let h = c.args.header in
-    let a = c.play-on-in-Prq-Patch in
+    let a = c.play_on-in-Prq-Patch in
     record {
       text = λ os e f.
           subst (λ x. Reported a.result (chosen_run x h.items h.cells h.workers os)) (sym c.in-Prq-Patch.is-0)
@@ -58,7 +58,7 @@ returns-in-Prq-Patch c =
 pub returns-in-Prq-Job : goal.returns-in-Prq-Job
 returns-in-Prq-Job c =
     let h = c.args.header in
-    let a = c.play-on-in-Prq-Job in
+    let a = c.play_on-in-Prq-Job in
     record {
       text = λ os e f.
           subst (λ x. Reported a.result (chosen_run x h.items h.cells h.workers os)) (sym c.in-Prq-Job.is-0)

@@ -31,9 +31,9 @@ kind_fits g x h =
     (items_assigned k.step k.held k.barred m.meaning m.touches_its_own m.places_free m.takes_held m.leaves_items) x.cells x.workers range
     (run_orderly k.step m.touches_its_own x.cells x.workers range) x.items
 
-pub returns-in-err-cells : goal.returns-in-err-cells
-returns-in-err-cells g c =
-    let p = err_from_is_err_and c.from-residual.result c.from-residual.ensures.1 in
+pub returns-in_err-cells : goal.returns-in_err-cells
+returns-in_err-cells g c =
+    let p = err_from_is_err_and c.from_residual.result c.from_residual.ensures.1 in
     let h = c.requires.range in
     record {
       text = λ os e f. rw (p.1, p.2) tt;
@@ -41,9 +41,9 @@ returns-in-err-cells g c =
       books = run_books g.I.ItemKind.text g.I.ItemKind.reading g.K.RingKind.step c.args.header.cells c.args.header.workers (kind_closes g) (h.0.0, h.0.1, h.1.0, h.1.1);
     }
 
-pub returns-in-err-workers : goal.returns-in-err-workers
-returns-in-err-workers g c =
-    let p = err_from_is_err_and c.from-residual-in-err-workers.result c.from-residual-in-err-workers.ensures.1 in
+pub returns-in_err-workers : goal.returns-in_err-workers
+returns-in_err-workers g c =
+    let p = err_from_is_err_and c.from_residual-in_err-workers.result c.from_residual-in_err-workers.ensures.1 in
     let h = c.requires.range in
     record {
       text = λ os e f. rw (p.1, p.2) tt;
@@ -59,10 +59,10 @@ returns g c =
     record {
       text = λ os e f.
           let run = whole_run g.I.ItemKind.text g.I.ItemKind.reading g.K.RingKind.step in
-          let cells = c.as-mut-slice.ensures.len ∙ c.in-ok-cells.ensures in
-          let workers = c.as-mut-slice-2.ensures.len ∙ c.in-ok-workers.ensures in
-          subst (λ x. Reported c.play-table.result (run x w os)) cells
-          (subst (λ x. Reported c.play-table.result (run (length c.as-mut-slice.result.now) x os)) workers (c.play-table.ensures.text os e f));
+          let cells = c.as_mut_slice.ensures.len ∙ c.in_ok-cells.ensures in
+          let workers = c.as_mut_slice-2.ensures.len ∙ c.in_ok-workers.ensures in
+          subst (λ x. Reported c.play_table.result (run x w os)) cells
+          (subst (λ x. Reported c.play_table.result (run (length c.as_mut_slice.result.now) x os)) workers (c.play_table.ensures.text os e f));
       fits = kind_fits g c.args.header h;
       books = run_books g.I.ItemKind.text g.I.ItemKind.reading g.K.RingKind.step r w (kind_closes g) (h.0.0, h.0.1, h.1.0, h.1.1);
     }

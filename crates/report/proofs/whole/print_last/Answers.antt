@@ -8,8 +8,8 @@ pub returns : goal.returns
 returns c =
     let control = c.args.control.now in
     let fs = last_fields control.head control.tail control.closed c.args.occupied in
-    let line = c.write-last.new.buffer in
+    let line = c.write_last.new.buffer in
     let before = vec_items c.args.out.now in
-    let done = filled last_mark fs (replicate 35 0) line refl c.in-default.field-0 (ap (λ x. (x, line)) (sym c.in-default.is) ∙ c.write-last.ensures) in
-    let was = c.in-ok-extend-from-slice.was in
-    (done.1, c.extend-from-slice.ensures.items ∙ ap (λ r. cond (is_ok r) (before ++ line) before) was ∙ ap (λ x. before ++ x) done.0)
+    let done = filled last_mark fs (replicate 35 0) line refl c.in_default.field-0 (ap (λ x. (x, line)) (sym c.in_default.is) ∙ c.write_last.ensures) in
+    let was = c.in_ok-extend_from_slice.was in
+    (done.1, c.extend_from_slice.ensures.items ∙ ap (λ r. cond (is_ok r) (before ++ line) before) was ∙ ap (λ x. before ++ x) done.0)

@@ -8,11 +8,11 @@ returns g c =
     let k = g.K.RingKind in
     let m = g.met.K.RingKind in
     record {
-      rows = c.call-made.ensures;
+      rows = c.call_made.ensures;
       books =
           continues k.step
           (books_close_by k.step k.held k.barred m.meaning m.touches_its_own m.places_free m.takes_held m.leaves_items m.passes_barred
           m.stays_barred)
           (table c.args.control.now c.args.cells.now c.args.workers.now) c.args.call
-          (left c.call-made.new.control c.call-made.new.cells c.call-made.new.workers c.call-made.result) c.call-made.ensures;
+          (left c.call_made.new.control c.call_made.new.cells c.call_made.new.workers c.call_made.result) c.call_made.ensures;
     }

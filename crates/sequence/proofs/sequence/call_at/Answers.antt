@@ -6,10 +6,10 @@ pub returns : goal.returns
 returns g c =
     let k = g.K.RingKind in
     let t = table c.args.control.now c.args.cells.now c.args.workers.now in
-    let o = left c.make-call-answer.new.control c.make-call-answer.new.cells c.make-call-answer.new.workers c.make-call-answer.result in
+    let o = left c.make_call-answer.new.control c.make_call-answer.new.cells c.make_call-answer.new.workers c.make_call-answer.result in
     record {
-      table = call_table k.step t o c.args.calls.now c.args.i c.index-calls-i.result c.requires.0 c.index-calls-i.is c.make-call-answer.ensures.rows;
+      table = call_table k.step t o c.args.calls.now c.args.i c.index-calls-i.result c.requires.0 c.index-calls-i.is c.make_call-answer.ensures.rows;
       answer =
           call_answer k.step t o c.args.calls.now c.args.i c.index-calls-i.result c.args.answers.now c.requires.0 c.index-calls-i.is
-          c.make-call-answer.ensures.rows;
+          c.make_call-answer.ensures.rows;
     }

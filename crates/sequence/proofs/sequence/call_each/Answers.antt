@@ -9,7 +9,7 @@ loop-i-preserved g c =
     let k : c.loop-i.i < length c.loop-i.answers = omega arith in
     sofar_more g.K.RingKind.step (table c.args.control.now c.args.cells.now c.args.workers.now) c.args.calls.now c.args.answers.now c.loop-i.i
     (table c.loop-i.control c.loop-i.cells c.loop-i.workers) c.loop-i.answers c.loop-i.invariant h k
-    (table c.call-at.new.control c.call-at.new.cells c.call-at.new.workers) c.call-at.new.answers c.call-at.ensures.table c.call-at.ensures.answer
+    (table c.call_at.new.control c.call_at.new.cells c.call_at.new.workers) c.call_at.new.answers c.call_at.ensures.table c.call_at.ensures.answer
 
 pub returns : goal.returns
 returns g c =

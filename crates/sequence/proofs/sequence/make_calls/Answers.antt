@@ -7,11 +7,11 @@ returns g c =
     let k = g.K.RingKind in
     let m = g.met.K.RingKind in
     record {
-      rows = c.laid-and-called.ensures;
+      rows = c.laid_and_called.ensures;
       books =
           made_books k.step
           (books_close_by k.step k.held k.barred m.meaning m.touches_its_own m.places_free m.takes_held m.leaves_items m.passes_barred
           m.stays_barred)
-          c.laid-and-called.result c.args.cells.now c.laid-and-called.new.cells c.args.workers.now c.laid-and-called.new.workers
-          c.args.calls.now c.args.answers.now c.laid-and-called.new.answers c.laid-and-called.ensures;
+          c.laid_and_called.result c.args.cells.now c.laid_and_called.new.cells c.args.workers.now c.laid_and_called.new.workers
+          c.args.calls.now c.args.answers.now c.laid_and_called.new.answers c.laid_and_called.ensures;
     }
