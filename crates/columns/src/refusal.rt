@@ -18,7 +18,7 @@ pub enum WriteRefusal {
 
 impl ReadRefusal {
     // 23 form, 24 range.
-    pub fn number(self) -> u8
+    pub fn number(self) -> u16
         ensures { result ≡ read_refusal_number self }
     {
         match self {
@@ -30,7 +30,7 @@ impl ReadRefusal {
 
 impl WriteRefusal {
     // 18 narrow, 24 range.
-    pub fn number(self) -> u8
+    pub fn number(self) -> u16
         ensures { result ≡ write_refusal_number self }
     {
         match self {

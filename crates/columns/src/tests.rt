@@ -4,7 +4,7 @@ use crate::{
 };
 
 // The refusal's number, and 0 where there is none.
-fn refused<T: Drop>(read: Result<T, ReadRefusal>) -> u8 {
+fn refused<T: Drop>(read: Result<T, ReadRefusal>) -> u16 {
     match read {
         Ok(_) => 0,
         Err(refusal) => refusal.number(),
@@ -13,7 +13,7 @@ fn refused<T: Drop>(read: Result<T, ReadRefusal>) -> u8 {
 
 #[test]
 fn refusals(rt: HostRuntime) {
-    let table: [(&[u8], u8); 24] = [
+    let table: [(&[u8], u16); 24] = [
         (b"", 23),
         (b"    ", 23),
         (b"   -", 23),
@@ -79,7 +79,7 @@ fn numbers(rt: HostRuntime) {
 
 #[test]
 fn texts(rt: HostRuntime) {
-    let table: [(usize, i64, [u8; 6], u8); 9] = [
+    let table: [(usize, i64, [u8; 6], u16); 9] = [
         (4, 70, *b"  70..", 0),
         (1, 0, *b"0.....", 0),
         (3, -99, *b"-99...", 0),

@@ -73,12 +73,12 @@ impl<I: Copy> RingKind<I> for Crq {
 }
 
 // The books of every run with CRQ close, they fill, and nothing is invented.
-pub fn crq_books_close<I: Copy>()
+pub fn crq_books_close<I: Copy>() -> u8
     ensures close { BooksClose {I = I} crq_step }
     ensures fill { BooksFill {I = I} crq_step }
     ensures origin { ItemsAssigned {I = I} crq_step }
 {
-    books_close::<I, Crq>();
+    books_close::<I, Crq>()
 }
 
 // The runs are computed, step by step.

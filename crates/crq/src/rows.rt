@@ -136,7 +136,7 @@ pub(crate) fn take_turn<I: Copy>(
     match row {
         KindRow::E3 => read_pair(worker, cell, Phase::Kind(KindRow::E4)),
         KindRow::E4 => e4(found, worker, cell),
-        KindRow::E5 => test_head(worker, found.head),
+        KindRow::E5 => read_head(worker, found.head),
         KindRow::E6 => e6(found, worker, cell),
         KindRow::D2 => read_pair(worker, cell, Phase::Kind(KindRow::D3)),
         KindRow::D3 => d3(found, worker, cell),

@@ -247,21 +247,11 @@ fn two_cells(rt: &HostRuntime) -> io::Result<()> {
     on_two_cells(rt, &mut cells, &mut workers)
 }
 
-// One enqueue on memory of one's own, and its first step: the example of the README.
-fn first_step() -> Result<Answer<u8>, Refusal> {
-    let mut cells = [Cell::fresh(), Cell::fresh()];
-    let mut workers = [Worker::idle(), Worker::idle()];
-    let mut control = lay_out(&mut cells, &mut workers)?;
-    assign_enqueue::<u8, Prq>(&control, &cells, &mut workers, WorkerNo(1), 7)?;
-    step(&Prq, &mut control, &mut cells, &mut workers, WorkerNo(1))
-}
-
 fn main(rt: HostRuntime) -> io::Result<()> {
     println!(rt; "run answer ticket step")?;
     one_cell(&rt)?;
     two_cells(&rt)?;
     one_cell_last(&rt)?;
     lay_many::<1024>(&rt)?;
-    lay_many::<1025>(&rt)?;
-    println!(rt; "a first step answers {}", numbers(first_step()).0)
+    lay_many::<1025>(&rt)
 }

@@ -5,9 +5,9 @@ ghost use Rattle.ring.specs.Rows.{draw_tail, read_closed, read_head, set_closed,
 ghost use Rattle.ring.specs.Calls.{fitting};
 ghost use Rattle.engine.specs.Engine.{Does};
 
-use crate::fits::fits;
+use crate::fits::{LIMIT, fits};
 use ring::answers::*;
-use ring::control::*;
+use ring::control::Control;
 use ring::table::*;
 use tickets::*;
 
@@ -15,7 +15,7 @@ use tickets::*;
 fn tail_drawn<I: Copy>(control: &mut Control, worker: &mut Worker<I>) -> Result<Answer<I>, Refusal>
     ensures { Does draw_tail control.old worker.old result control.new worker.new }
 {
-    if control.tail == COUNTER_LIMIT {
+    if control.tail == LIMIT {
         return Err(Refusal::Spent);
     }
     *worker = Worker {
@@ -79,7 +79,7 @@ fn closed_set<I: Copy>(control: &mut Control, worker: &mut Worker<I>) -> Result<
 fn head_drawn<I: Copy>(control: &mut Control, worker: &mut Worker<I>) -> Result<Answer<I>, Refusal>
     ensures { Does draw_head control.old worker.old result control.new worker.new }
 {
-    if control.head == COUNTER_LIMIT {
+    if control.head == LIMIT {
         return Err(Refusal::Spent);
     }
     *worker = Worker {

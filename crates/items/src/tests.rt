@@ -3,7 +3,7 @@ use crate::{ITEM_WIDTH, ItemKind, Job, Patch};
 use columns::ColumnFault;
 
 // The faulty field's first column and the refusal's number, and zeros where there is none.
-fn fault<T: Drop>(read: Result<T, ColumnFault>) -> (usize, u8) {
+fn fault<T: Drop>(read: Result<T, ColumnFault>) -> (usize, u16) {
     match read {
         Ok(_) => (0, 0),
         Err(fault) => (fault.column, fault.refusal.number()),
@@ -11,7 +11,7 @@ fn fault<T: Drop>(read: Result<T, ColumnFault>) -> (usize, u8) {
 }
 
 // What the item writes into a buffer that is longer by two.
-fn text<I: ItemKind>(item: I) -> ([u8; 17], u8) {
+fn text<I: ItemKind>(item: I) -> ([u8; 17], u16) {
     let mut buffer = *b".................";
     let said = match item.write(&mut buffer) {
         Ok(()) => 0,
@@ -22,7 +22,7 @@ fn text<I: ItemKind>(item: I) -> ([u8; 17], u8) {
 
 #[test]
 fn patches(rt: HostRuntime) {
-    let table: [(&[u8; ITEM_WIDTH], (usize, u8)); 12] = [
+    let table: [(&[u8; ITEM_WIDTH], (usize, u16)); 12] = [
         (b"       0   0  0", (0, 0)),
         (b"999999999999999", (0, 0)),
         (b"       1   2-99", (0, 0)),
@@ -61,7 +61,7 @@ fn patches(rt: HostRuntime) {
 
 #[test]
 fn jobs(rt: HostRuntime) {
-    let table: [(&[u8; ITEM_WIDTH], (usize, u8)); 13] = [
+    let table: [(&[u8; ITEM_WIDTH], (usize, u16)); 13] = [
         (b" block999999999", (0, 0)),
         (b"  stop         ", (0, 0)),
         (b" BLOCK        1", (1, 23)),

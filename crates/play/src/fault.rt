@@ -23,10 +23,10 @@ pub enum PlayFault {
 }
 
 // What a fault line prints.
-#[derive(Clone, Copy)]
+#[derive(Clone, Copy, PartialEq, Eq, Debug)]
 pub struct Place {
-    pub layer: u8,
-    pub number: u8,
+    pub layer: u16,
+    pub number: u16,
     pub line: usize,
     pub column: usize,
 }

@@ -3,7 +3,7 @@ ghost use Rattle.std.specs.Prelude.{◌≡◌};
 ghost use Rattle.play.specs.Letters.{letter_of, width_of};
 
 // The letter of a line that orders something.
-#[derive(Clone, Copy)]
+#[derive(Clone, Copy, PartialEq, Eq, Debug)]
 pub enum OrderLetter {
     Enqueue,
     Dequeue,
@@ -11,7 +11,7 @@ pub enum OrderLetter {
 }
 
 // The letter of a header, or of a line that orders something.
-#[derive(Clone, Copy)]
+#[derive(Clone, Copy, PartialEq, Eq, Debug)]
 pub enum Letter {
     Ring,
     Order(OrderLetter),

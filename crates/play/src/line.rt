@@ -12,9 +12,6 @@ use columns::{ColumnFault, at_column, read_unsigned};
 use items::{ITEM_WIDTH, ItemKind, Job, Patch};
 use tickets::WorkerNo;
 
-// How many columns of an E line stand before its item.
-const ITEM_START: usize = 5;
-
 // The number in the columns `first` to `last`, counted from 1.
 fn field(line: &[u8], first: usize, last: usize, least: u64, most: u64) -> Result<u64, ColumnFault>
     requires { (1 ≤ first) × ((first ≤ last) × (last ≤ length line.now)) }
@@ -67,7 +64,7 @@ fn item_columns(line: &[u8]) -> &[u8; ITEM_WIDTH]
     requires { length line.now ≡ 20 }
     ensures { result.now ≡ take 15 (drop 5 line.now) }
 {
-    match line[ITEM_START..ITEM_START + ITEM_WIDTH].split_first_chunk() {
+    match line[5..20].split_first_chunk() {
         Some((columns, _)) => columns,
         None => unreachable(),
     }
@@ -84,7 +81,7 @@ fn check_item(items: ItemChoice, columns: &[u8; ITEM_WIDTH]) -> Result<(), Colum
     match fault {
         None => Ok(()),
         Some(found) => Err(ColumnFault {
-            column: found.column + ITEM_START,
+            column: found.column + 5,
             refusal: found.refusal,
         }),
     }

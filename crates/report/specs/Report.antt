@@ -16,6 +16,7 @@ use Rattle.play.specs.Play.{PlainPlay, play_reading}
 use Rattle.crq.specs.Rows.{crq_step}
 use Rattle.prq.specs.Rows.{prq_step}
 use Rattle.report.specs.RunBooks.{RunBooks}
+use Rattle.report.specs.OrderBooks.{OrderBooks}
 use Rattle.report.specs.Whole.{Report, whole_run}
 
 -- of a play with a fault: its fault line alone
@@ -57,3 +58,19 @@ BooksBy (Err f) = Unit {0}
 -- the books of the run that these bytes order
 abbrev pub BooksOf : List ℕ → Type 0
 BooksOf bytes = BooksBy (play_reading bytes)
+
+-- the books of the run that a play without fault orders
+abbrev pub ChosenOrderBooks : RingChoice → ItemChoice → ℕ → ℕ → List PlainOrder → Type 0
+ChosenOrderBooks ring.Crq item.Patch r w os = OrderBooks patch_text patch_reading crq_step r w os
+ChosenOrderBooks ring.Crq item.Job r w os = OrderBooks job_text job_reading crq_step r w os
+ChosenOrderBooks ring.Prq item.Patch r w os = OrderBooks patch_text patch_reading prq_step r w os
+ChosenOrderBooks ring.Prq item.Job r w os = OrderBooks job_text job_reading prq_step r w os
+
+-- by what the play was read as: a play with a fault runs nothing and has no books
+abbrev pub OrderBooksBy : Result PlainPlay PlayFault → Type 0
+OrderBooksBy (Ok p) = ChosenOrderBooks p.header.ring p.header.items p.header.cells p.header.workers p.orders
+OrderBooksBy (Err f) = Unit {0}
+
+-- the books of the very calls that these bytes order
+abbrev pub OrderBooksOf : List ℕ → Type 0
+OrderBooksOf bytes = OrderBooksBy (play_reading bytes)

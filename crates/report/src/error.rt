@@ -5,8 +5,8 @@ ghost use Rattle.report.specs.declared.error.ReportError.TheVariants.{Memory};
 use std::alloc::AllocError;
 
 // Want of memory, or a number that is wider than its field.
-#[derive(Clone, Copy)]
-pub(crate) enum ReportError {
+#[derive(Clone, Copy, PartialEq, Eq, Debug)]
+pub enum ReportError {
     Memory,
     Wide,
 }

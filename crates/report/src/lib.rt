@@ -5,7 +5,9 @@
 // Rests on: every library but runs; it is the top of the tree.
 #![tactic(auto)]
 
-mod error;
+pub mod error;
 mod player;
 pub mod report;
 mod whole;
+
+pub use lines::{call_line, last_line};

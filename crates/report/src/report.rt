@@ -3,8 +3,9 @@ ghost use Rattle.std.specs.Prelude.{◌≡◌, ℕ, ◌≤◌, List, length, IfO
 ghost use Rattle.play.specs.Orders.{PlainOrder};
 ghost use Rattle.play.specs.Text.{HeaderFits, OrdersFit, orders_text};
 ghost use Rattle.report.specs.Fits.{ReportFits, RunFits};
-ghost use Rattle.report.specs.Report.{BooksOf, ChosenBooks, chosen_run, fault_report, report_of};
+ghost use Rattle.report.specs.Report.{BooksOf, ChosenBooks, ChosenOrderBooks, OrderBooksOf, chosen_run, fault_report, report_of};
 ghost use Rattle.report.specs.RunBooks.{RunBooks};
+ghost use Rattle.report.specs.OrderBooks.{OrderBooks};
 ghost use Rattle.report.specs.Whole.{Reported, whole_run};
 
 use crate::error::*;
@@ -55,6 +56,7 @@ fn play_on<I: ItemKind, K: RingKind<I>>(
     requires short { length body.now ≤ 60000 }
     ensures text { (os : List PlainOrder) → body.now ≡ orders_text os → OrdersFit header.items os → Reported result (whole_run I.ItemKind.text I.ItemKind.reading K.RingKind.step header.cells header.workers os) }
     ensures fits { RunFits header.items (whole_run I.ItemKind.text I.ItemKind.reading K.RingKind.step header.cells header.workers) }
+    ensures orders { (os : List PlainOrder) → OrderBooks I.ItemKind.text I.ItemKind.reading K.RingKind.step header.cells header.workers os }
     ensures books { (os : List PlainOrder) → RunBooks I.ItemKind.text I.ItemKind.reading K.RingKind.step header.cells header.workers os }
 {
     let mut cells = repeated(heap, Cell::<I>::fresh(), header.cells)?;
@@ -75,6 +77,7 @@ fn play_chosen(heap: Global, header: Header, body: &[u8]) -> Result<Vec<u8>, Rep
     requires short { length body.now ≤ 60000 }
     ensures text { (os : List PlainOrder) → body.now ≡ orders_text os → OrdersFit header.items os → Reported result (chosen_run header.ring header.items header.cells header.workers os) }
     ensures fits { RunFits header.items (chosen_run header.ring header.items header.cells header.workers) }
+    ensures orders { (os : List PlainOrder) → ChosenOrderBooks header.ring header.items header.cells header.workers os }
     ensures books { (os : List PlainOrder) → ChosenBooks header.ring header.items header.cells header.workers os }
 {
     match (header.ring, header.items) {
@@ -85,10 +88,11 @@ fn play_chosen(heap: Global, header: Header, body: &[u8]) -> Result<Vec<u8>, Rep
     }
 }
 
-// The report of a play, or why it cannot be made.
-fn make_report(heap: Global, bytes: &[u8]) -> Result<Vec<u8>, ReportError>
+// The report of a play: the line of its first fault, or what its orders come to.
+pub fn report(heap: Global, bytes: &[u8]) -> Result<Vec<u8>, ReportError>
     ensures text { Reported result (report_of bytes.now) }
     ensures fits { ReportFits bytes.now }
+    ensures orders { OrderBooksOf bytes.now }
     ensures books { BooksOf bytes.now }
 {
     match read_play(bytes) {
@@ -97,13 +101,14 @@ fn make_report(heap: Global, bytes: &[u8]) -> Result<Vec<u8>, ReportError>
     }
 }
 
-// The report of a play: the line of its first fault, or what its orders come to. Its lines fit, so only memory can be wanting.
-pub fn report(heap: Global, bytes: &[u8]) -> Result<Vec<u8>, AllocError>
+// The report of a play. Its lines fit, so only memory can be wanting.
+pub fn full_report(heap: Global, bytes: &[u8]) -> Result<Vec<u8>, AllocError>
     ensures text { IfOk result (λ v. v.items ≡ (report_of bytes.now).text) }
     ensures fits { ReportFits bytes.now }
+    ensures orders { OrderBooksOf bytes.now }
     ensures books { BooksOf bytes.now }
 {
-    match make_report(heap, bytes) {
+    match report(heap, bytes) {
         Ok(text) => Ok(text),
         Err(ReportError::Memory) => Err(AllocError),
         Err(ReportError::Wide) => unreachable(),

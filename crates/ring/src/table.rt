@@ -27,7 +27,7 @@ pub struct Cell<I> {
 }
 
 // The operation that a phase belongs to.
-#[derive(Clone, Copy)]
+#[derive(Clone, Copy, PartialEq, Eq, Debug)]
 pub enum Side {
     Neither,
     Enqueuing,
@@ -35,7 +35,7 @@ pub enum Side {
 }
 
 // The rows that the engine performs, for every ring kind.
-#[derive(Clone, Copy)]
+#[derive(Clone, Copy, PartialEq, Eq, Debug)]
 pub enum EngineRow {
     E1,
     E2,
@@ -46,7 +46,7 @@ pub enum EngineRow {
 }
 
 // The rows that a ring kind supplies.
-#[derive(Clone, Copy)]
+#[derive(Clone, Copy, PartialEq, Eq, Debug)]
 pub enum KindRow {
     E3,
     E4,

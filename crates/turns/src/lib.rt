@@ -63,7 +63,7 @@ pub fn read_value<I: Copy>(
 }
 
 // The worker tests Head: an enqueue on a cell that is not Safe goes on if Head has not passed its ticket.
-pub fn test_head<I: Copy>(worker: &mut Worker<I>, head: u64) -> Result<Answer<I>, Refusal>
+pub fn read_head<I: Copy>(worker: &mut Worker<I>, head: u64) -> Result<Answer<I>, Refusal>
     ensures answer { result ≡ Ok Working }
     ensures record { worker.new ≡ with_phase worker.old (if nat_le head worker.old.ticket.0 then Kind E6 else Engine E9) }
 {

@@ -3,7 +3,7 @@ use Rattle.std.proofs.Common.{◌≡◌, sym, subst}
 use Rattle.play.specs.declared.header.RingChoice.TheVariants as ring
 use Rattle.play.specs.declared.header.ItemChoice.TheVariants as item
 use Rattle.report.specs.Fits.{RunFits}
-use Rattle.report.specs.Report.{chosen_run, ChosenBooks}
+use Rattle.report.specs.Report.{chosen_run, ChosenBooks, ChosenOrderBooks}
 use Rattle.report.specs.Whole.{Reported}
 use Rattle.report.proofs.report.play_chosen.Goals as goal
 
@@ -18,6 +18,9 @@ returns-in-Crq-Patch c =
       fits =
           subst (λ x. RunFits h.items (chosen_run x h.items h.cells h.workers)) (sym c.in-Crq-Patch.is-0)
           (subst (λ y. RunFits h.items (chosen_run ring.Crq y h.cells h.workers)) (sym c.in-Crq-Patch.is-1) a.ensures.fits);
+      orders = λ os.
+          subst (λ x. ChosenOrderBooks x h.items h.cells h.workers os) (sym c.in-Crq-Patch.is-0)
+          (subst (λ y. ChosenOrderBooks ring.Crq y h.cells h.workers os) (sym c.in-Crq-Patch.is-1) (a.ensures.orders os));
       books = λ os.
           subst (λ x. ChosenBooks x h.items h.cells h.workers os) (sym c.in-Crq-Patch.is-0)
           (subst (λ y. ChosenBooks ring.Crq y h.cells h.workers os) (sym c.in-Crq-Patch.is-1) (a.ensures.books os));
@@ -34,6 +37,9 @@ returns-in-Crq-Job c =
       fits =
           subst (λ x. RunFits h.items (chosen_run x h.items h.cells h.workers)) (sym c.in-Crq-Job.is-0)
           (subst (λ y. RunFits h.items (chosen_run ring.Crq y h.cells h.workers)) (sym c.in-Crq-Job.is-1) a.ensures.fits);
+      orders = λ os.
+          subst (λ x. ChosenOrderBooks x h.items h.cells h.workers os) (sym c.in-Crq-Job.is-0)
+          (subst (λ y. ChosenOrderBooks ring.Crq y h.cells h.workers os) (sym c.in-Crq-Job.is-1) (a.ensures.orders os));
       books = λ os.
           subst (λ x. ChosenBooks x h.items h.cells h.workers os) (sym c.in-Crq-Job.is-0)
           (subst (λ y. ChosenBooks ring.Crq y h.cells h.workers os) (sym c.in-Crq-Job.is-1) (a.ensures.books os));
@@ -50,6 +56,9 @@ returns-in-Prq-Patch c =
       fits =
           subst (λ x. RunFits h.items (chosen_run x h.items h.cells h.workers)) (sym c.in-Prq-Patch.is-0)
           (subst (λ y. RunFits h.items (chosen_run ring.Prq y h.cells h.workers)) (sym c.in-Prq-Patch.is-1) a.ensures.fits);
+      orders = λ os.
+          subst (λ x. ChosenOrderBooks x h.items h.cells h.workers os) (sym c.in-Prq-Patch.is-0)
+          (subst (λ y. ChosenOrderBooks ring.Prq y h.cells h.workers os) (sym c.in-Prq-Patch.is-1) (a.ensures.orders os));
       books = λ os.
           subst (λ x. ChosenBooks x h.items h.cells h.workers os) (sym c.in-Prq-Patch.is-0)
           (subst (λ y. ChosenBooks ring.Prq y h.cells h.workers os) (sym c.in-Prq-Patch.is-1) (a.ensures.books os));
@@ -66,6 +75,9 @@ returns-in-Prq-Job c =
       fits =
           subst (λ x. RunFits h.items (chosen_run x h.items h.cells h.workers)) (sym c.in-Prq-Job.is-0)
           (subst (λ y. RunFits h.items (chosen_run ring.Prq y h.cells h.workers)) (sym c.in-Prq-Job.is-1) a.ensures.fits);
+      orders = λ os.
+          subst (λ x. ChosenOrderBooks x h.items h.cells h.workers os) (sym c.in-Prq-Job.is-0)
+          (subst (λ y. ChosenOrderBooks ring.Prq y h.cells h.workers os) (sym c.in-Prq-Job.is-1) (a.ensures.orders os));
       books = λ os.
           subst (λ x. ChosenBooks x h.items h.cells h.workers os) (sym c.in-Prq-Job.is-0)
           (subst (λ y. ChosenBooks ring.Prq y h.cells h.workers os) (sym c.in-Prq-Job.is-1) (a.ensures.books os));

@@ -9,7 +9,7 @@ use Rattle.play.specs.declared.header.Header.{Header}
 use Rattle.play.specs.Text.{HeaderFits}
 use Rattle.report.specs.Fits.{RunFits}
 use Rattle.report.specs.Whole.{Reported, whole_run}
-use Rattle.report.proofs.History.{run_books}
+use Rattle.report.proofs.History.{order_books, run_books}
 use Rattle.report.proofs.LinesFit.{whole_fits}
 use Rattle.report.proofs.report.play_on.Given.{Over}
 use Rattle.report.proofs.report.play_on.Goals as goal
@@ -38,6 +38,7 @@ returns-in_err-cells g c =
     record {
       text = λ os e f. rw (p.1, p.2) tt;
       fits = kind_fits g c.args.header h;
+      orders = order_books g.I.ItemKind.text g.I.ItemKind.reading g.K.RingKind.step c.args.header.cells c.args.header.workers (kind_closes g) (h.0.0, h.0.1, h.1.0, h.1.1);
       books = run_books g.I.ItemKind.text g.I.ItemKind.reading g.K.RingKind.step c.args.header.cells c.args.header.workers (kind_closes g) (h.0.0, h.0.1, h.1.0, h.1.1);
     }
 
@@ -48,6 +49,7 @@ returns-in_err-workers g c =
     record {
       text = λ os e f. rw (p.1, p.2) tt;
       fits = kind_fits g c.args.header h;
+      orders = order_books g.I.ItemKind.text g.I.ItemKind.reading g.K.RingKind.step c.args.header.cells c.args.header.workers (kind_closes g) (h.0.0, h.0.1, h.1.0, h.1.1);
       books = run_books g.I.ItemKind.text g.I.ItemKind.reading g.K.RingKind.step c.args.header.cells c.args.header.workers (kind_closes g) (h.0.0, h.0.1, h.1.0, h.1.1);
     }
 
@@ -64,5 +66,6 @@ returns g c =
           subst (λ x. Reported c.play_table.result (run x w os)) cells
           (subst (λ x. Reported c.play_table.result (run (length c.as_mut_slice.result.now) x os)) workers (c.play_table.ensures.text os e f));
       fits = kind_fits g c.args.header h;
+      orders = order_books g.I.ItemKind.text g.I.ItemKind.reading g.K.RingKind.step r w (kind_closes g) (h.0.0, h.0.1, h.1.0, h.1.1);
       books = run_books g.I.ItemKind.text g.I.ItemKind.reading g.K.RingKind.step r w (kind_closes g) (h.0.0, h.0.1, h.1.0, h.1.1);
     }
