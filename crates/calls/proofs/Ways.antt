@@ -17,8 +17,7 @@ use Rattle.ring.specs.Phases.{engine_side, kind_side}
 use Rattle.ring.specs.Turns.{Turn, Performed, KindStep}
 use Rattle.ring.specs.Rows.{EngineTurn, engine_row}
 use Rattle.ring.specs.Calls.{engine_turned, turned, fitting, row}
-use Rattle.engine.specs.Engine.{EnginePerformed, counters}
-use Rattle.calls.specs.Promise.{table}
+use Rattle.engine.specs.Engine.{EnginePerformed}
 use Rattle.calls.specs.Turns.{EngineAt, KindAt}
 
 module _ {I : Type 0} where

@@ -1,7 +1,7 @@
 -- One field more of a row.
-use Rattle.std.proofs.Common.{◌≡◌, ℕ, suc, ◌+◌, ◌-◌, ◌<◌, ◌≤◌, Bool, true, false, cond, ◌&&◌, ltb, leb, List, [], ◌∷◌, ◌++◌, length, get_or, take, drop, set, pos, Ok, Err, Result, sym, refl, ap, ◌∙◌, subst, inl, inr, append_assoc, append-nil, arith}
+use Rattle.std.proofs.Common.{◌≡◌, ℕ, suc, ◌+◌, ◌<◌, ◌≤◌, true, false, ◌&&◌, ltb, leb, List, [], ◌∷◌, ◌++◌, length, get_or, take, drop, set, pos, Ok, Err, Result, sym, refl, ap, ◌∙◌, inl, inr, append_assoc, append-nil, arith}
 use borrow.Rule.Slice.PartMut.{put_mid}
-use Rattle.std.proofs.lemmas.List.{length-append, length-drop, length-take-le, drop_all, drop_more, set_at, at_drop_more}
+use Rattle.std.proofs.lemmas.List.{length-append, drop_all, drop_more, set_at, at_drop_more}
 use Rattle.std.proofs.lemmas.Slice.{take-put_mid}
 use Rattle.std.proofs.lemmas.Bool.{cases_Bool, cond-true, cond-false, and_parts, le-ltb, leb-true}
 use Rattle.columns.specs.declared.refusal.WriteRefusal.{WriteRefusal}
@@ -9,7 +9,7 @@ use Rattle.columns.specs.declared.refusal.WriteRefusal.TheVariants.{Range}
 use Rattle.columns.specs.declared.row.Field.{Field}
 use Rattle.columns.specs.Number.{digits, text, field}
 use Rattle.columns.specs.Row.{row_width, row_text, row_fits, row_written}
-use Rattle.columns.specs.Writing.{put, written}
+use Rattle.columns.specs.Writing.{written}
 use Rattle.columns.proofs.Laws.{length_field}
 
 abbrev pub no_field : Field

@@ -1,5 +1,5 @@
 -- A patch's text is read back as that patch, and a text that is read is that patch's.
-use Rattle.std.specs.Prelude.{◌≡◌, ℕ, ◌+◌, ◌<◌, ◌≤◌, true, List, ◌++◌, length, take, drop, ℤ, pos, negsuc, ◌≤ℤ◌, Some, None, Ok, Err, Result, FitsSigned, int_le, nat_le, refl}
+use Rattle.std.specs.Prelude.{◌≡◌, ℕ, ◌<◌, ◌≤◌, true, List, ◌++◌, length, take, drop, ℤ, pos, negsuc, ◌≤ℤ◌, Some, None, Ok, Err, Result, FitsSigned, int_le, nat_le, refl}
 use Rattle.std.proofs.Common.{sym, ap, subst, ◌∙◌, inl, inr, arith, of_z, to_z}
 use Rattle.std.specs.Int.{w16, w64}
 use Rattle.std.proofs.ByRecursion.{All-append}

@@ -1,5 +1,5 @@
 -- What the first line says of the header, by the bytes.
-use Rattle.std.proofs.Common.{◌≡◌, ℕ, suc, ◌<◌, Bool, true, false, List, [], ◌∷◌, length, get_or, take, drop, Ok, Err, Result, sym, refl, ap, ◌∙◌, subst}
+use Rattle.std.proofs.Common.{◌≡◌, ℕ, ◌<◌, true, false, List, [], ◌∷◌, length, get_or, take, drop, Ok, Err, ap, ◌∙◌}
 use Rattle.std.proofs.lemmas.Bool.{cond-true, cond-false}
 use Rattle.play.specs.declared.fault.PlayFault.{PlayFault}
 use Rattle.play.specs.declared.fault.PlayFault.TheVariants as play_fault
@@ -11,7 +11,7 @@ use Rattle.play.specs.Orders.{header_reading}
 use Rattle.play.specs.Play.{first_letter, letter_in, whole, header_opened, first_header, first_whole}
 use Rattle.play.proofs.Lines.{Leads, first_ends}
 use Rattle.play.proofs.FirstLine.{leading_byte}
-use Rattle.play.proofs.Whole.{WholeShape, whole_shape}
+use Rattle.play.proofs.Whole.{whole_shape}
 
 module _ (bs : List ℕ) (some : 0 < length bs) where
   pub header_letter : (f : PlayFault) → first_letter (letter_of (get_or bs 0 0)) ≡ Err f → first_header (lines_of bs) ≡ Err f

@@ -1,7 +1,7 @@
 -- The first line of what is left of a body: at fault, or an order with the other lines behind it.
-use Rattle.std.proofs.Common.{◌≡◌, ℕ, zero, suc, ◌+◌, ◌-◌, ◌<◌, ◌≤◌, Bool, true, false, cond, ◌&&◌, eqb, ◌⊎◌, List, [], ◌∷◌, length, get_or, take, drop, Some, None, Ok, Err, Option, Result, sym, refl, ap, ◌∙◌, subst, inl, inr, arith, length-drop}
-use Rattle.std.proofs.lemmas.List.{get_or-drop, drop-drop, length-take-le}
-use Rattle.std.proofs.lemmas.Bool.{cond-true, cond-false, eq-eqb, ne_eqb, eqb-true, and_from, and_left, and_right, cases_eq}
+use Rattle.std.proofs.Common.{◌≡◌, ℕ, suc, ◌<◌, true, false, eqb, List, [], ◌∷◌, length, get_or, take, drop, Some, Ok, Err, Option, Result, sym, refl, ap, ◌∙◌, subst, inl, inr, arith}
+use Rattle.std.proofs.lemmas.List.{length-take-le}
+use Rattle.std.proofs.lemmas.Bool.{cond-true, cond-false, eq-eqb, ne_eqb, and_from, cases_eq}
 use Rattle.play.specs.declared.fault.PlayFault.{PlayFault}
 use Rattle.play.specs.declared.fault.PlayFault.TheVariants as play_fault
 use Rattle.play.specs.declared.fault.LineFault.{LineFault}
@@ -14,7 +14,7 @@ use Rattle.play.specs.Letters.{letter_of, width_of}
 use Rattle.play.specs.Faults.{at_line}
 use Rattle.play.specs.Orders.{PlainOrder, order_reading}
 use Rattle.play.specs.Play.{order_letter, letter_in, whole, order_opened, order_line, before, order_lines, fault_part}
-use Rattle.play.proofs.Lines.{Unbroken, Leads, first_ends, first_open, first_long}
+use Rattle.play.proofs.Lines.{Unbroken, Leads, first_ends}
 
 -- the first fault of the lines of bs, the first of which has the number n
 abbrev pub fault_in : ItemChoice → ℕ → List ℕ → Option PlayFault

@@ -7,7 +7,6 @@ use Rattle.columns.specs.declared.refusal.ReadRefusal.TheVariants.{Form}
 use Rattle.columns.specs.declared.fault.ColumnFault.{ColumnFault}
 use Rattle.columns.specs.Faults.{at_column}
 use Rattle.columns.specs.Reading.{unsigned_reading, signed_reading}
-use Rattle.items.specs.declared.patch.Patch.{Patch}
 use Rattle.items.specs.declared.job.Job.{Job}
 use Rattle.items.specs.declared.job.Job.TheVariants.{Block, Sweep, Flush, Stop}
 use Rattle.items.specs.Patch.{face_width, face_most, zone_width, zone_start, zone_most, level_width, level_start, level_least, level_most, patch_of, patch_reading}

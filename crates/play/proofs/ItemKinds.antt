@@ -1,8 +1,8 @@
 -- Both item kinds say the same of their columns.
-use Rattle.std.proofs.Common.{◌≡◌, ℕ, List, length, Some, Ok, Err, Result, refl, ap}
+use Rattle.std.proofs.Common.{◌≡◌, ℕ, List, length, Ok, Err, Result, refl, ap}
 use Rattle.columns.specs.declared.fault.ColumnFault.{ColumnFault}
-use Rattle.items.specs.Patch.{patch_reading, patch_text}
-use Rattle.items.specs.Job.{job_reading, job_text}
+use Rattle.items.specs.Patch.{patch_reading}
+use Rattle.items.specs.Job.{job_reading}
 use Rattle.items.specs.Patches.{patch_back, patch_only, patch_wide, patch_printed}
 use Rattle.items.specs.Jobs.{job_back, job_only, job_wide, job_printed}
 use Rattle.play.specs.declared.header.ItemChoice.{ItemChoice}

@@ -1,12 +1,11 @@
 -- The order whose text stands in front of some bytes: there is one just where a line is read as one.
-use Rattle.std.proofs.Common.{◌≡◌, ℕ, suc, ◌+◌, ◌<◌, ◌≤◌, true, List, [], ◌∷◌, ◌++◌, length, get_or, take, drop, Some, None, Ok, Err, Option, sym, refl, ap, ◌∙◌, subst, append_assoc, arith}
+use Rattle.std.proofs.Common.{◌≡◌, ℕ, ◌+◌, ◌<◌, true, List, [], ◌∷◌, ◌++◌, length, get_or, take, drop, Some, None, Ok, Option, sym, refl, ap, ◌∙◌, append_assoc, arith}
 use Rattle.std.proofs.lemmas.List.{append_cancel_left, length-append, length-take-le, get_or_append_left, get_or_at, get_or_default, get_or-take, take_at, take-append-drop, drop_more}
 use Rattle.play.specs.declared.header.ItemChoice.{ItemChoice}
 use Rattle.play.specs.declared.letter.OrderLetter.{OrderLetter}
 use Rattle.play.specs.declared.letter.OrderLetter.TheVariants.{Enqueue, Dequeue, Steps}
 use Rattle.play.specs.declared.letter.Letter.{Letter}
 use Rattle.play.specs.declared.letter.Letter.TheVariants.{Ring, Order}
-use Rattle.play.specs.declared.fault.LineFault.{LineFault}
 use Rattle.play.specs.declared.next.Next.{Next}
 use Rattle.play.specs.Lines.{LF, Line, lines_of}
 use Rattle.play.specs.Letters.{letter_of, code_of, width_of}

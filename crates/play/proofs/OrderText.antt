@@ -1,14 +1,12 @@
 -- A line without fault is the text of what it says, and such a text is read as what it says.
-use Rattle.std.proofs.Common.{◌≡◌, ℕ, zero, suc, ◌+◌, ◌-◌, ◌^◌, ◌<◌, ◌≤◌, Bool, true, false, cond, ◌&&◌, eqb, List, [], ◌∷◌, ◌++◌, length, get_or, take, drop, pos, Some, None, Ok, Err, Option, Result, sym, refl, ap, ◌∙◌, subst, inl, inr, arith}
+use Rattle.std.proofs.Common.{◌≡◌, ℕ, ◌≤◌, true, eqb, List, ◌∷◌, ◌++◌, length, get_or, take, drop, pos, Some, None, Ok, Err, Option, Result, sym, refl, ap, ◌∙◌, subst, inl, inr, arith}
 use Rattle.std.specs.List.{AllByRecursion as All}
 use Rattle.std.proofs.ByRecursion.{All-append}
 use Rattle.std.proofs.lemmas.List.{length-drop, length-append, take_all, take_at, drop_at}
 use Rattle.std.proofs.lemmas.Bool.{cond-true, cond-false, cases_Bool, eq-eqb, eqb-true, and_from, and_parts}
-use Rattle.tickets.specs.declared.WorkerNo.{WorkerNo}
 use Rattle.columns.specs.declared.fault.ColumnFault.{ColumnFault}
 use Rattle.columns.specs.Number.{field}
 use Rattle.columns.proofs.Laws.{printed_field}
-use Rattle.play.specs.declared.fault.PlayFault.{PlayFault}
 use Rattle.play.specs.declared.fault.LineFault.{LineFault}
 use Rattle.play.specs.declared.header.ItemChoice.{ItemChoice}
 use Rattle.play.specs.declared.letter.OrderLetter.{OrderLetter}
@@ -20,7 +18,7 @@ use Rattle.play.specs.Letters.{letter_of, code_of, width_of}
 use Rattle.play.specs.Faults.{at_line}
 use Rattle.play.specs.Orders.{PlainOrder, enqueue, dequeue, steps, field_reading, item_check, enqueue_from, dequeue_from, steps_from, order_reading}
 use Rattle.play.specs.Play.{order_letter, letter_in, whole, order_opened, order_line}
-use Rattle.play.specs.Text.{Within, ItemColumns, OrderFits, order_columns}
+use Rattle.play.specs.Text.{ItemColumns, OrderFits, order_columns}
 use Rattle.play.proofs.Fields.{clash, letter_code, field_only, field_back, wide_field, by_first, by_parts, last_part}
 
 abbrev pub Printed : List ℕ → Type 0

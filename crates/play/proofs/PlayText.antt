@@ -1,5 +1,5 @@
 -- Bytes without fault are the text of the play that they say, and that text is read as the play.
-use Rattle.std.proofs.Common.{◌≡◌, ℕ, suc, ◌<◌, ◌≤◌, Bool, true, false, cond, eqb, ltb, List, [], ◌∷◌, ◌++◌, length, Ok, Err, Result, sym, refl, ap, ◌∙◌, subst, inl, inr, append_assoc, arith}
+use Rattle.std.proofs.Common.{◌≡◌, ℕ, suc, ◌≤◌, true, eqb, ltb, List, [], ◌∷◌, ◌++◌, length, Ok, Err, Result, sym, refl, ap, ◌∙◌, subst, inl, inr, append_assoc, arith}
 use Rattle.std.proofs.lemmas.Bool.{cond-true, cond-false, cases_Bool, ne_eqb, le-ltb}
 use Rattle.play.specs.declared.fault.PlayFault.{PlayFault}
 use Rattle.play.specs.declared.header.Header.{Header}
@@ -7,7 +7,7 @@ use Rattle.play.specs.declared.header.ItemChoice.{ItemChoice}
 use Rattle.play.specs.Lines.{LF, Line, in_front, lines_of}
 use Rattle.play.specs.Orders.{PlainOrder}
 use Rattle.play.specs.Play.{PlainPlay, order_line, before, order_lines, with_orders, header_line, play_from, play_lines, longest, play_reading}
-use Rattle.play.specs.Text.{OrderFits, OrdersFit, HeaderFits, PlayFits, order_columns, order_text, orders_text, header_columns, header_text, play_text, TextLaw}
+use Rattle.play.specs.Text.{OrdersFit, PlayFits, order_columns, order_text, orders_text, header_columns, header_text, play_text, TextLaw}
 use Rattle.play.proofs.Fields.{clash}
 use Rattle.play.proofs.Lines.{end_text, line_text, lines_text, text_of_lines}
 use Rattle.play.proofs.OrderText.{Printed, ItemLaws, line_only, line_back, order_printed}

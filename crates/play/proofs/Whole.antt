@@ -1,10 +1,10 @@
 -- When the first line has just so many columns and an LF behind them, by the bytes.
-use Rattle.std.proofs.Common.{◌≡◌, ℕ, zero, suc, ◌+◌, ◌<◌, ◌≤◌, Bool, true, false, not, ◌&&◌, eqb, ◌⊎◌, List, [], ◌∷◌, ◌++◌, length, get_or, take, drop, sym, refl, ap, ◌∙◌, subst, inl, inr, append_assoc, arith}
+use Rattle.std.proofs.Common.{◌≡◌, ℕ, zero, suc, ◌<◌, true, false, eqb, List, [], ◌∷◌, ◌++◌, length, get_or, take, sym, refl, ap, ◌∙◌, subst, inl, inr, append_assoc, arith}
 use Rattle.std.proofs.lemmas.List.{length-append, length-take-le, get_or_append_left, get_or_at}
 use Rattle.std.proofs.lemmas.Bool.{cases_eq, cases_Bool, cond-true, cond-false, eq-eqb, ne_eqb, eqb-true, and_from, and_parts, both_ways}
 use Rattle.play.specs.Lines.{LF, Line, in_front, lines_of}
-use Rattle.play.specs.Play.{whole, first_whole}
-use Rattle.play.proofs.Lines.{Unbroken, lines_text, end_text, line_text, text_of_lines, first_ends}
+use Rattle.play.specs.Play.{first_whole}
+use Rattle.play.proofs.Lines.{Unbroken, lines_text, end_text, text_of_lines, first_ends}
 
 -- no column of the first line is LF
 abbrev FirstClear : List Line → Type 0

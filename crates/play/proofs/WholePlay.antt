@@ -1,6 +1,6 @@
 -- A whole play by its first line and its body.
-use Rattle.std.proofs.Common.{◌≡◌, ℕ, ◌<◌, ◌≤◌, Bool, true, false, ltb, List, [], ◌∷◌, length, get_or, take, drop, Some, None, Ok, Err, Option, Result, sym, refl, ap, ◌∙◌, subst, inl, inr}
-use Rattle.std.proofs.lemmas.Bool.{cond-true, cond-false, cases_Bool, lt-ltb, le-ltb}
+use Rattle.std.proofs.Common.{◌≡◌, ℕ, ◌≤◌, true, ltb, List, [], ◌∷◌, length, take, drop, Some, None, Ok, Err, Option, Result, sym, refl, ap, ◌∙◌, inl, inr}
+use Rattle.std.proofs.lemmas.Bool.{cond-false, cases_Bool, le-ltb}
 use Rattle.play.specs.declared.fault.PlayFault.{PlayFault}
 use Rattle.play.specs.declared.fault.PlayFault.TheVariants as play_fault
 use Rattle.play.specs.declared.header.Header.{Header}
@@ -8,10 +8,10 @@ use Rattle.play.specs.declared.letter.Letter.{Letter}
 use Rattle.play.specs.declared.letter.Letter.TheVariants.{Ring, Order}
 use Rattle.play.specs.Lines.{Line, lines_of}
 use Rattle.play.specs.Orders.{PlainOrder}
-use Rattle.play.specs.Play.{PlainPlay, letter_in, first_letter, whole, first_whole, header_opened, header_line, first_header, order_lines, with_orders, play_from, play_lines, longest, play_reading, fault_part}
+use Rattle.play.specs.Play.{letter_in, first_letter, whole, first_whole, header_opened, header_line, first_header, order_lines, with_orders, play_from, play_lines, longest, play_reading, fault_part}
 use Rattle.play.specs.Text.{orders_text}
 use Rattle.play.proofs.Fields.{clash}
-use Rattle.play.proofs.Lines.{lines_text, text_of_lines, first_ends}
+use Rattle.play.proofs.Lines.{text_of_lines, first_ends}
 use Rattle.play.proofs.Whole.{whole_shape}
 use Rattle.play.proofs.OrderText.{ItemLaws}
 use Rattle.play.proofs.PlayText.{orders_only}

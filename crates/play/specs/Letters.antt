@@ -1,6 +1,5 @@
 -- The letters of a play, and how many columns the line of each has.
 use Rattle.std.specs.Prelude.{ℕ, cond, Some, None, Option, ◌==◌}
-use Rattle.play.specs.declared.letter.OrderLetter.{OrderLetter}
 use Rattle.play.specs.declared.letter.OrderLetter.TheVariants.{Enqueue, Dequeue, Steps}
 use Rattle.play.specs.declared.letter.Letter.{Letter}
 use Rattle.play.specs.declared.letter.Letter.TheVariants.{Ring, Order}

@@ -1,5 +1,5 @@
 -- The lines of a text. Each ends with LF, but for what stands behind the last LF.
-use Rattle.std.specs.Prelude.{ℕ, Bool, true, false, cond, List, [], ◌∷◌, ◌++◌, ◌==◌}
+use Rattle.std.specs.Prelude.{ℕ, Bool, true, false, cond, List, [], ◌∷◌, ◌==◌}
 
 -- the byte that ends a line
 abbrev pub LF : ℕ

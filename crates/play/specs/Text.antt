@@ -1,6 +1,5 @@
 -- A header, an order and a play written out, and which of them can be.
 use Rattle.std.specs.Prelude.{◌≡◌, ℕ, ◌≤◌, List, [], ◌∷◌, ◌++◌, length, pos, Some, Ok}
-use Rattle.tickets.specs.declared.WorkerNo.{WorkerNo}
 use Rattle.columns.specs.Number.{field}
 use Rattle.items.specs.declared.patch.Patch.{Patch as PatchItem}
 use Rattle.items.specs.declared.job.Job.{Job as JobItem}

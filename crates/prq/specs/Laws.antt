@@ -21,7 +21,6 @@ use Rattle.ring.proofs.Orderly.{drawn, Orderly}
 use Rattle.ring.proofs.Rounds.{later_round}
 use Rattle.ring.proofs.Values.{free_item}
 use Rattle.ring.proofs.Writes.{cell_was, cell_here, cell_else}
-use Rattle.turns.specs.Worked.{at}
 use Rattle.prq.specs.Barred.{AtDoor, Unlocked, Clear, Bars, prq_barred}
 use Rattle.prq.specs.Rows.{prq_step}
 use Rattle.prq.specs.AfterTurn.{own_promise, turn_seen, lock_after, not_locking, free_after, known_at_door, clear_after, unlocked_else, clear_else}

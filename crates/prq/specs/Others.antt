@@ -12,7 +12,6 @@ use Rattle.ring.proofs.Equals.{clash}
 use Rattle.ring.proofs.Induction.{each_cell_after}
 use Rattle.ring.proofs.Orderly.{Orderly}
 use Rattle.ring.proofs.Rounds.{same_place}
-use Rattle.turns.specs.Worked.{at}
 use Rattle.prq.specs.Rows.{prq_step}
 use Rattle.prq.specs.AfterTurn.{turn_seen, lock_after, not_locking, free_after, promise_here, clear_after, unlocked_else, clear_else}
 use Rattle.prq.specs.Promises.{Promise, Promised, Bears, bears}

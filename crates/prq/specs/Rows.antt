@@ -1,5 +1,5 @@
 -- The rows of PRQ, which swaps a cell's pair or its value, one word at a time.
-use Rattle.std.specs.Prelude.{ℕ, Bool, true, false, cond, ◌&&◌, ◌||◌, ◌==◌, nat_le, nat_lt}
+use Rattle.std.specs.Prelude.{Bool, true, false, cond, ◌&&◌, ◌||◌, ◌==◌, nat_le, nat_lt}
 use Rattle.ring.specs.declared.table.Value.{Value}
 use Rattle.ring.specs.declared.table.Value.TheVariants.{Empty, Token, Item}
 use Rattle.ring.specs.declared.table.EngineRow.TheVariants.{E9}

@@ -21,7 +21,7 @@ use Rattle.ring.specs.Fields.{with_phase, with_pair, with_value, finished, with_
 use Rattle.ring.specs.Laws.{Turned, Kept, EnqueueTurn, DequeueTurn, TurnOf, TouchesItsOwn}
 use Rattle.ring.specs.Phases.{kind_side}
 use Rattle.ring.specs.Table.{Table, worker, cell, occupied}
-use Rattle.ring.specs.Turns.{Turn, same_pair, still, is_token, goes, passes, places, takes}
+use Rattle.ring.specs.Turns.{Turn, same_pair, still, is_token, places, takes}
 use Rattle.ring.proofs.Pairs.{pair_from}
 use Rattle.ring.proofs.RowByRow.{GivesTurn, RowsTouchTheirOwn, kept_on, row_of_turn, rows_touch_their_own}
 use Rattle.ring.proofs.Values.{still_free, still_own}

@@ -1,5 +1,5 @@
 -- What an error says of a run.
-use Rattle.std.proofs.Common.{◌≡◌, ℕ, ◌≤◌, true, false, ◌&&◌, List, IfOk, Err, Option, Result, subst}
+use Rattle.std.proofs.Common.{◌≡◌, ℕ, ◌≤◌, false, List, IfOk, Err, Option, Result, subst}
 use Rattle.report.specs.declared.error.ReportError.{ReportError}
 use Rattle.report.specs.declared.error.ReportError.TheVariants.{Memory, Wide}
 use Rattle.report.specs.Player.{Failed, Printed, Ran}

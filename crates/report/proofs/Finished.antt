@@ -1,5 +1,5 @@
 -- A run and its last line.
-use Rattle.std.proofs.Common.{◌≡◌, ℕ, Bool, true, false, ◌&&◌, List, ◌++◌, Ok, Err, sym, refl, ap, ◌∙◌}
+use Rattle.std.proofs.Common.{◌≡◌, ℕ, true, List, ◌++◌, Ok, Err, sym, ap, ◌∙◌}
 use Rattle.std.proofs.lemmas.Bool.{and_left, and_right, and_from}
 use Rattle.columns.specs.declared.row.Field.{Field}
 use Rattle.columns.specs.Row.{line_text, row_fits}
@@ -8,7 +8,7 @@ use Rattle.report.specs.declared.error.ReportError.TheVariants.{Memory, Wide}
 use Rattle.lines.specs.LastLine.{last_mark}
 use Rattle.report.specs.Player.{Failed, LastPrinted}
 use Rattle.report.specs.Running.{Running}
-use Rattle.report.specs.Whole.{Report, table_fields, finished, Unreported}
+use Rattle.report.specs.Whole.{table_fields, finished, Unreported}
 
 module _ {I : Type 0} where
   pub body_unreported : (e : ReportError) (s : Running I) → Failed e s → Unreported e (finished s)

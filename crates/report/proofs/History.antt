@@ -1,5 +1,5 @@
 -- The calls that a run makes, one after the other.
-use Rattle.std.proofs.Common.{◌≡◌, ℕ, zero, suc, ◌+◌, Bool, true, false, cond, List, [], ◌∷◌, length, Ok, Err, Option, Result, sym, refl, ap, subst, arith}
+use Rattle.std.proofs.Common.{ℕ, zero, suc, Bool, true, false, cond, List, [], ◌∷◌, Ok, Err, Option, Result, sym, refl, ap, subst, arith}
 use Rattle.tickets.specs.declared.WorkerNo.{WorkerNo}
 use Rattle.columns.specs.declared.fault.ColumnFault.{ColumnFault}
 use Rattle.ring.specs.declared.call.Call.{Call}

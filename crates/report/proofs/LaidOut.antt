@@ -1,13 +1,13 @@
 -- The table that laying out leaves.
-use Rattle.std.proofs.Common.{◌≡◌, ℕ, ◌≤◌, Bool, true, false, cond, ◌&&◌, leb, List, length, Ok, Err, Result, sym, refl, ap, ◌∙◌}
+use Rattle.std.proofs.Common.{◌≡◌, true, leb, List, length, Ok, ap, ◌∙◌}
 use Rattle.std.proofs.lemmas.Bool.{cond-true, and_from, le-leb}
 use Rattle.ring.specs.declared.table.Cell.{Cell}
 use Rattle.ring.specs.declared.table.Worker.{Worker}
 use Rattle.ring.specs.declared.control.Control.{Control}
-use Rattle.ring.specs.Table.{Counters, Table, InRange, laid_out}
+use Rattle.ring.specs.Table.{Table, InRange, laid_out}
 use Rattle.engine.specs.Engine.{counters}
 use Rattle.calls.specs.Promise.{table}
-use Rattle.calls.specs.Laying.{Laying, ring_fits, crew_fits, laid, laying}
+use Rattle.calls.specs.Laying.{Laying, ring_fits, crew_fits, laying}
 
 pub laid_table : {I : Type 0} (cs cs' : List (Cell I)) (ws ws' : List (Worker I)) (c : Control) → InRange (length cs) (length ws)
     → ◌≡◌ {A = Laying I} (record { control = Ok (counters c); cells = cs'; workers = ws' }) (laying cs ws) → table c cs' ws' ≡ laid_out (length cs) (length ws)

@@ -1,5 +1,5 @@
 -- One order more of a body.
-use Rattle.std.proofs.Common.{◌≡◌, ℕ, ◌+◌, ◌<◌, ◌≤◌, true, false, List, [], ◌∷◌, ◌++◌, length, Ok, Err, Option, Result, sym, refl, ap, ◌∙◌, arith}
+use Rattle.std.proofs.Common.{◌≡◌, ℕ, ◌+◌, ◌≤◌, false, List, [], ◌∷◌, ◌++◌, length, Ok, Err, Option, Result, ap, arith}
 use Rattle.std.proofs.lemmas.List.{length-append}
 use Rattle.tickets.specs.declared.WorkerNo.{WorkerNo}
 use Rattle.columns.specs.declared.fault.ColumnFault.{ColumnFault}

@@ -1,12 +1,12 @@
 -- One step more of an S order, and what stays once a line could not be written.
-use Rattle.std.proofs.Common.{◌≡◌, ℕ, zero, suc, ◌-◌, ◌<◌, Bool, true, false, cond, ◌&&◌, List, Option, sym, refl, ap, ◌∙◌, inl, inr, arith}
+use Rattle.std.proofs.Common.{◌≡◌, ℕ, zero, suc, ◌-◌, ◌<◌, true, false, List, Option, ap, ◌∙◌, inl, inr, arith}
 use Rattle.std.proofs.lemmas.Bool.{cond-true, cond-false, cases_Bool, and_left}
 use Rattle.tickets.specs.declared.WorkerNo.{WorkerNo}
 use Rattle.ring.specs.declared.call.Call.{Call}
 use Rattle.ring.specs.declared.call.Call.TheVariants.{Step}
 use Rattle.ring.specs.Calls.{called}
 use Rattle.ring.specs.Turns.{KindStep}
-use Rattle.report.specs.Running.{Running, performed, stepping, stops, caller, printed, has_line}
+use Rattle.report.specs.Running.{Running, performed, stepping, stops}
 
 module _ {I : Type 0} (text : I → Option (List ℕ)) (step : KindStep I) where
   pub steps_stop : (w : WorkerNo) (n : ℕ) (s : Running I) → 0 < n → stops (called step s.table (Step w)).answer ≡ true → stepping text step w n s ≡ performed text step s (Step w)

@@ -1,5 +1,5 @@
 -- A running player by the parts that a function is lent, and what an error of it means.
-use Rattle.std.specs.Prelude.{◌≡◌, ℕ, Bool, true, false, List, ◌++◌, Ok, Err, Option, Result}
+use Rattle.std.specs.Prelude.{◌≡◌, ℕ, true, false, List, ◌++◌, Ok, Err, Option, Result}
 use Rattle.columns.specs.declared.row.Field.{Field}
 use Rattle.columns.specs.Row.{line_text, row_fits}
 use Rattle.lines.specs.LastLine.{last_mark}

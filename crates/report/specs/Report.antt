@@ -1,10 +1,9 @@
 -- The report of a play, by its bytes: the line of its first fault, or what its orders come to on the ring and with the items that its header names.
-use Rattle.std.specs.Prelude.{◌≡◌, ℕ, Bool, List, Ok, Err, Result}
+use Rattle.std.specs.Prelude.{ℕ, List, Ok, Err, Result}
 use Rattle.columns.specs.Row.{line_text, row_fits}
 use Rattle.items.specs.Patch.{patch_text, patch_reading}
 use Rattle.items.specs.Job.{job_text, job_reading}
 use Rattle.play.specs.declared.fault.PlayFault.{PlayFault}
-use Rattle.play.specs.declared.header.Header.{Header}
 use Rattle.play.specs.declared.header.RingChoice.{RingChoice}
 use Rattle.play.specs.declared.header.RingChoice.TheVariants as ring
 use Rattle.play.specs.declared.header.ItemChoice.{ItemChoice}

@@ -21,7 +21,6 @@ use Rattle.ring.specs.Turns.{Turn, KindStep}
 use Rattle.ring.specs.Rows.{EngineTurn, engine_row}
 use Rattle.ring.specs.Calls.{Outcome, moved, engine_turned, turned, counts_agree, is_worker, for_worker, starting, fit, fitting, row, called}
 use Rattle.ring.specs.Laws.{alone}
-use Rattle.ring.proofs.Orderly.{drawn}
 
 abbrev pub counted : ℕ → ℕ → ℕ → ℕ → Counters
 counted r w h l = record { cells = r; workers = w; head = h; tail = l; closed = false }

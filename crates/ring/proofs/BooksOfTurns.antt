@@ -13,7 +13,7 @@ use Rattle.ring.specs.declared.call.Call.TheVariants.{Step}
 use Rattle.ring.specs.Table.{Table, ticket, worker, cell, occupied, Held}
 use Rattle.ring.specs.Phases.{kind_side}
 use Rattle.ring.specs.Fields.{shut}
-use Rattle.ring.specs.Turns.{Turn, goes}
+use Rattle.ring.specs.Turns.{Turn}
 use Rattle.ring.specs.Calls.{is_worker}
 use Rattle.ring.specs.Ledger.{Event, Ledger, State, noted, work, worked, placed, taken, passed_over}
 use Rattle.ring.specs.Laws.{item_of, then_table}

@@ -8,7 +8,7 @@ use Rattle.ring.specs.declared.table.Worker.{Worker}
 use Rattle.ring.specs.declared.table.KindRow.{KindRow}
 use Rattle.ring.specs.declared.table.KindRow.TheVariants.{E3, D2}
 use Rattle.ring.specs.declared.table.Phase.TheVariants.{Kind}
-use Rattle.ring.specs.Table.{Counters, Table, ticket, fresh_cell, idle_worker, worker, cell}
+use Rattle.ring.specs.Table.{Counters, Table, fresh_cell, idle_worker, worker, cell}
 use Rattle.ring.specs.Phases.{Outside}
 use Rattle.ring.specs.Calls.{is_worker}
 use Rattle.ring.specs.Laws.{Alike, Framed, Enters}

@@ -5,7 +5,7 @@ use Rattle.std.proofs.lemmas.List.{get_or-replicate}
 use Rattle.tickets.specs.declared.Ticket.{Ticket}
 use Rattle.tickets.specs.declared.WorkerNo.{WorkerNo}
 use Rattle.ring.specs.Table.{InRange, fresh_cell, idle_worker, laid_out, worker, cell}
-use Rattle.ring.specs.Calls.{is_worker, carries}
+use Rattle.ring.specs.Calls.{is_worker}
 use Rattle.ring.proofs.Equals.{clash}
 use Rattle.ring.proofs.Orderly.{Orderly, worker_range}
 

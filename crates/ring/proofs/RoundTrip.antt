@@ -7,9 +7,9 @@ use Rattle.ring.specs.declared.table.KindRow.{KindRow}
 use Rattle.ring.specs.declared.table.Phase.TheVariants.{Kind}
 use Rattle.ring.specs.declared.answers.Answer.TheVariants.{Placed, Taken}
 use Rattle.ring.specs.declared.call.Call.TheVariants.{AssignEnqueue, AssignDequeue}
-use Rattle.ring.specs.Table.{Table, InRange, ticket, fresh_cell, idle_worker, laid_out, worker, cell}
+use Rattle.ring.specs.Table.{Table, InRange, ticket, fresh_cell, idle_worker, laid_out}
 use Rattle.ring.specs.Phases.{kind_side}
-use Rattle.ring.specs.Turns.{Turn, KindStep, places, takes}
+use Rattle.ring.specs.Turns.{Turn, KindStep}
 use Rattle.ring.specs.Calls.{Outcome, is_worker, fit, called}
 use Rattle.ring.specs.Laws.{ThereAndBack, alone}
 use Rattle.ring.proofs.Alone.{Stands, enqueue_in, dequeue_in, turn_is, turn_stands, new_stands, hands_over, enqueue_comes, dequeue_comes}

@@ -13,7 +13,7 @@ use Rattle.ring.specs.declared.table.Phase.{Phase}
 use Rattle.ring.specs.declared.table.Phase.TheVariants.{Idle, Engine, Kind}
 use Rattle.ring.specs.declared.answers.Refusal.{Refusal}
 use Rattle.ring.specs.declared.answers.Refusal.TheVariants.{Misfit}
-use Rattle.ring.specs.Table.{Table, counter_limit, ticket, worker, cell}
+use Rattle.ring.specs.Table.{Table, counter_limit, worker, cell}
 use Rattle.ring.specs.Phases.{kind_side, side}
 use Rattle.ring.specs.Fields.{with_phase}
 use Rattle.ring.specs.Turns.{Turn, KindRows, in_kind, step_of}

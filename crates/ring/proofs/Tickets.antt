@@ -8,8 +8,8 @@ use Rattle.ring.specs.declared.table.Side.{Side}
 use Rattle.ring.specs.declared.table.Side.TheVariants.{Neither, Enqueuing, Dequeuing}
 use Rattle.ring.specs.Table.{Counters, Table, counter_limit, worker}
 use Rattle.ring.specs.Phases.{side}
-use Rattle.ring.specs.Turns.{Turn, KindStep, goes}
-use Rattle.ring.specs.Calls.{is_worker, carries}
+use Rattle.ring.specs.Turns.{Turn, KindStep}
+use Rattle.ring.specs.Calls.{is_worker}
 use Rattle.ring.specs.Laws.{Turned, EnqueueTurn, DequeueTurn, then_table, TurnOf, TouchesItsOwn}
 use Rattle.ring.proofs.Equals.{clash}
 use Rattle.ring.proofs.Moves.{Move, Moved, move_from, Found, move_counters, move_worker, move_table, gets_enqueue, gets_dequeue, draws_tail, finds_open, finds_closed, finds_room, finds_full, shuts, draws_head, finds_more, finds_empty}

@@ -6,7 +6,7 @@ use Rattle.ring.specs.declared.table.Cell.{Cell}
 use Rattle.ring.specs.declared.table.Worker.{Worker}
 use Rattle.ring.specs.declared.table.Value.{Value}
 use Rattle.ring.specs.declared.table.Phase.{Phase}
-use Rattle.ring.specs.Table.{Counters, ticket, idle_worker}
+use Rattle.ring.specs.Table.{Counters, idle_worker}
 
 -- Head anew, all else as it was
 abbrev pub with_head : Counters → ℕ → Counters

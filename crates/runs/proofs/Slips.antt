@@ -1,7 +1,7 @@
 -- For each slip a run whose books do not close: a ticket is passed over and placed, or taken and never placed.
 use mathlib.Core.Path.{◌≡◌, refl, ap}
 use mathlib.Core.List.{List, [], ◌∷◌}
-use mathlib.Core.Logic.{◌⊎◌, inl, inr}
+use mathlib.Core.Logic.{inl, inr}
 use Prim.Native.Nat.{ℕ, zero, suc}
 use native.Mathlib.Omega.{arith}
 use Rattle.tickets.specs.declared.WorkerNo.{WorkerNo}

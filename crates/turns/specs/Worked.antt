@@ -6,7 +6,7 @@ use Rattle.ring.specs.declared.answers.Answer.TheVariants.{Assigned, Working, Pl
 use Rattle.ring.specs.declared.answers.Refusal.{Refusal}
 use Rattle.ring.specs.declared.call.Call.{Call}
 use Rattle.ring.specs.declared.call.Call.TheVariants.{AssignEnqueue, AssignDequeue}
-use Rattle.ring.specs.Table.{Table, ticket, fresh_cell, laid_out}
+use Rattle.ring.specs.Table.{Table, fresh_cell, laid_out}
 use Rattle.ring.specs.Turns.{KindStep}
 use Rattle.ring.specs.Calls.{called}
 use Rattle.ring.specs.Laws.{alone}

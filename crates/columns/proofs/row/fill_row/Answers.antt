@@ -1,11 +1,11 @@
-use Rattle.std.proofs.Common.{◌≡◌, ◌+◌, ◌-◌, ◌<◌, ◌≤◌, true, leb, ◌++◌, length, get_or, take, drop, pos, sym, ap, ◌∙◌, append-nil, arith, rules}
+use Rattle.std.proofs.Common.{◌≡◌, ◌+◌, ◌-◌, leb, ◌++◌, length, get_or, take, drop, pos, sym, ap, ◌∙◌, append-nil, arith, rules}
 use borrow.Rule.Slice.PartMut.{put_mid}
 use Rattle.std.proofs.lemmas.List.{places, at_drop_all, take_all, length-take-le, length-drop}
 use Rattle.std.proofs.lemmas.Bool.{and_parts, leb-true}
-use Rattle.columns.specs.Number.{text, field}
+use Rattle.columns.specs.Number.{text}
 use Rattle.columns.specs.Row.{row_width, row_text, row_fits}
 use Rattle.columns.proofs.Laws.{length_field}
-use Rattle.columns.proofs.Rows.{no_field, width_more, text_more, fits_more, fills, row_turn}
+use Rattle.columns.proofs.Rows.{no_field, width_more, fits_more, fills, row_turn}
 use Rattle.columns.proofs.row.fill_row.Goals as goal
 
 pub overflow_add-end : goal.overflow_add-end

@@ -1,4 +1,4 @@
-use Rattle.std.proofs.Common.{◌≡◌, ◌+◌, ◌≤◌, true, ◌++◌, length, take, drop}
+use Rattle.std.proofs.Common.{◌≡◌, ◌+◌, true, ◌++◌, length, take, drop}
 use Rattle.columns.specs.Row.{row_width, row_text, row_fits}
 use Rattle.columns.proofs.row.fill_row.Given as goal
 

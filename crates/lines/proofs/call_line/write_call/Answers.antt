@@ -1,15 +1,14 @@
 -- Room, then the item, then the numbers.
-use Rattle.std.proofs.Common.{◌≡◌, ℕ, true, false, ltb, List, [], ◌∷◌, ◌++◌, length, take, drop, set, Some, None, Ok, Err, sym, ap, ◌∙◌, subst, arith}
-use borrow.Rule.Slice.PartMut.{put_mid, post_of}
+use Rattle.std.proofs.Common.{◌≡◌, ltb, ◌++◌, length, take, drop, set, Ok, Err, sym, ap, ◌∙◌, arith}
+use borrow.Rule.Slice.PartMut.{put_mid}
 use Rattle.std.specs.Option.{ok_or}
 use Rattle.std.proofs.lemmas.List.{length-take-le, take-append-drop}
 use Rattle.std.proofs.lemmas.Result.{err_from_is_err_and}
 use Rattle.std.proofs.lemmas.Bool.{cond-true, cond-false, le-ltb}
 use Rattle.columns.specs.declared.refusal.WriteRefusal.TheVariants.{Narrow, Range}
-use Rattle.columns.specs.declared.row.Field.{Field}
-use Rattle.columns.specs.Row.{row_fits, row_text, row_width, row_written}
+use Rattle.columns.specs.Row.{row_fits, row_text, row_written}
 use Rattle.columns.proofs.Rows.{row_refused, row_done, length_row}
-use Rattle.lines.specs.CallLine.{reply_item, reply_number, reply_ticket, call_fields, call_line, call_written, line_of, line_put, shown}
+use Rattle.lines.specs.CallLine.{reply_item, call_fields, call_line, line_of, line_put, shown}
 use Rattle.lines.proofs.CallLines.{chosen, shown_wide, three_parts}
 use Rattle.lines.proofs.call_line.write_call.Goals as goal
 

@@ -1,7 +1,7 @@
 -- By the text of the order that stands in front.
-use Rattle.std.proofs.Common.{◌≡◌, ◌+◌, ◌-◌, ◌<◌, ◌++◌, length, get_or, take, drop, Ok, Err, sym, ap, ◌∙◌, subst, arith}
+use Rattle.std.proofs.Common.{◌≡◌, ◌+◌, ◌-◌, ◌++◌, get_or, take, Ok, sym, ap, ◌∙◌, arith}
 use Rattle.std.proofs.lemmas.List.{take_rest}
-use Rattle.play.specs.Letters.{letter_of, width_of}
+use Rattle.play.specs.Letters.{letter_of}
 use Rattle.play.specs.Orders.{plain, heard, order_reading}
 use Rattle.play.specs.Play.{order_letter}
 use Rattle.play.specs.Text.{order_text}

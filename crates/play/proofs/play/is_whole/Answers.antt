@@ -1,6 +1,6 @@
 -- By the bytes of a text whose first line is whole.
 use Rattle.std.proofs.Common.{sym, arith}
-use Rattle.play.proofs.Whole.{WholeShape, not_whole, shape_whole}
+use Rattle.play.proofs.Whole.{not_whole, shape_whole}
 use Rattle.play.proofs.play.is_whole.Goals as goal
 use Rattle.play.proofs.play.is_whole.Goals.{then-width-bytes-via-then-width-bytes, then-width-bytes-via-else-width-bytes+then-bytes-width-ne-LF}
 

@@ -1,10 +1,10 @@
 -- The length, then the first line, then the body.
-use Rattle.std.proofs.Common.{◌≡◌, ltb, length, drop, Some, None, Ok, Err, sym, ap, ◌∙◌, subst, arith}
+use Rattle.std.proofs.Common.{ltb, length, Err, sym, ap, ◌∙◌, subst}
 use Rattle.std.proofs.lemmas.List.{take_rest}
 use Rattle.std.proofs.lemmas.Result.{err_from_is_err_and}
 use Rattle.std.proofs.lemmas.Bool.{cond-true, lt-ltb}
 use Rattle.play.specs.Lines.{lines_of}
-use Rattle.play.specs.Play.{first_header, order_lines, fault_part, longest}
+use Rattle.play.specs.Play.{order_lines, fault_part, longest}
 use Rattle.play.specs.Promise.{PlayRead}
 use Rattle.play.proofs.ItemKinds.{item_laws}
 use Rattle.play.proofs.PlayText.{text_law}

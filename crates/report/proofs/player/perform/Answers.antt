@@ -1,7 +1,6 @@
 use Rattle.std.proofs.Common.{◌+◌, vec_items, sym, ap, ◌∙◌}
 use Rattle.std.proofs.lemmas.Result.{err_from_is_err_and}
 use Rattle.ring.specs.Calls.{Outcome}
-use Rattle.lines.specs.CallLine.{Reply}
 use Rattle.report.specs.Player.{running}
 use Rattle.report.specs.Running.{caller, has_line, performed, printed}
 use Rattle.report.proofs.Errors.{print_failed}

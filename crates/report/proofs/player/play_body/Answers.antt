@@ -1,5 +1,5 @@
 -- By the order whose text stands in front of the rest.
-use Rattle.std.proofs.Common.{◌≡◌, [], vec_items, sym, ap, ◌∙◌, arith}
+use Rattle.std.proofs.Common.{vec_items, sym, ap, ◌∙◌, arith}
 use Rattle.std.proofs.lemmas.Result.{err_from_is_err_and}
 use Rattle.play.specs.Orders.{plain}
 use Rattle.play.proofs.ItemKinds.{item_laws}

@@ -1,5 +1,5 @@
 -- Each order is one assignment, or the steps that it asks for.
-use Rattle.std.proofs.Common.{◌≡◌, ◌+◌, vec_items, sym, ap, ◌∙◌}
+use Rattle.std.proofs.Common.{◌+◌, vec_items, sym, ap, ◌∙◌}
 use Rattle.ring.specs.declared.call.Call.TheVariants.{AssignEnqueue, AssignDequeue}
 use Rattle.play.specs.Orders.{plain}
 use Rattle.report.specs.Player.{running}

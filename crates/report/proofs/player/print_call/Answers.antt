@@ -1,5 +1,5 @@
 -- The line that was written stands behind what was printed before.
-use Rattle.std.proofs.Common.{◌≡◌, cond, ◌++◌, replicate, is_ok, Some, vec_items, sym, refl, ap, ◌∙◌}
+use Rattle.std.proofs.Common.{cond, ◌++◌, replicate, is_ok, vec_items, sym, refl, ap, ◌∙◌}
 use Rattle.std.proofs.lemmas.Bool.{cond-true}
 use Rattle.lines.specs.CallLine.{is_printed, call_line}
 use Rattle.report.specs.Running.{has_line, line_bytes}

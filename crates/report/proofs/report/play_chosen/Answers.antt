@@ -1,7 +1,6 @@
 -- Each pair of choices has its own run.
-use Rattle.std.proofs.Common.{◌≡◌, sym, subst}
+use Rattle.std.proofs.Common.{sym, subst}
 use Rattle.play.specs.declared.header.RingChoice.TheVariants as ring
-use Rattle.play.specs.declared.header.ItemChoice.TheVariants as item
 use Rattle.report.specs.Fits.{RunFits}
 use Rattle.report.specs.Report.{chosen_run, ChosenBooks, ChosenOrderBooks}
 use Rattle.report.specs.Whole.{Reported}

@@ -1,5 +1,5 @@
 -- The table has as many cells and workers as the header says; want of memory says nothing of the report.
-use Rattle.std.proofs.Common.{◌≡◌, length, sym, ap, ◌∙◌, subst}
+use Rattle.std.proofs.Common.{length, ◌∙◌, subst}
 use Rattle.std.proofs.lemmas.Result.{err_from_is_err_and}
 use Rattle.ring.proofs.BooksClose.{books_close_by}
 use Rattle.ring.proofs.Origin.{items_assigned, run_orderly}

@@ -1,5 +1,5 @@
 -- What the bytes say decides what is reported.
-use Rattle.std.proofs.Common.{◌≡◌, true, length, Ok, Err, sym, ap, subst, arith}
+use Rattle.std.proofs.Common.{◌≡◌, true, length, sym, ap, subst, arith}
 use Rattle.report.specs.Report.{report_by, BooksBy, OrderBooksBy}
 use Rattle.report.specs.Whole.{Reported}
 use Rattle.report.proofs.FaultFits.{fault_fits}

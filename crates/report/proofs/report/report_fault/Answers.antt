@@ -1,5 +1,5 @@
 -- The line that was written is the report.
-use Rattle.std.proofs.Common.{◌≡◌, cond, [], ◌++◌, replicate, is_ok, vec_items, sym, refl, ap, ◌∙◌}
+use Rattle.std.proofs.Common.{cond, ◌++◌, replicate, is_ok, vec_items, sym, refl, ap, ◌∙◌}
 use Rattle.play.specs.FaultLine.{fault_mark, place_fields}
 use Rattle.play.specs.Faults.{place_of}
 use Rattle.report.proofs.LastLines.{filled}

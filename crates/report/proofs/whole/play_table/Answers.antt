@@ -1,12 +1,12 @@
 -- Laying out, the orders, and the last line.
-use Rattle.std.proofs.Common.{◌≡◌, true, length, vec_items, sym, refl, ap, ◌∙◌, subst}
+use Rattle.std.proofs.Common.{◌≡◌, true, length, vec_items, sym, ap, ◌∙◌, subst}
 use Rattle.std.proofs.lemmas.Result.{err_from_is_err_and}
 use Rattle.ring.specs.Table.{laid_out}
 use Rattle.calls.specs.Laying.{counters_of}
 use Rattle.lines.specs.LastLine.{last_fields}
 use Rattle.report.specs.Player.{running}
-use Rattle.report.specs.Running.{Running, all_ordered}
-use Rattle.report.specs.Whole.{starting, table_fields, finished, Reported, Unreported}
+use Rattle.report.specs.Running.{all_ordered}
+use Rattle.report.specs.Whole.{starting, table_fields, finished, Unreported}
 use Rattle.report.proofs.Finished.{body_unreported, last_unreported, last_reported}
 use Rattle.report.proofs.LaidOut.{laid_table}
 use Rattle.ring.proofs.BooksClose.{books_close_by}

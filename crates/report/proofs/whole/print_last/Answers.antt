@@ -1,5 +1,5 @@
 -- The line that was written stands behind what was printed before.
-use Rattle.std.proofs.Common.{◌≡◌, cond, ◌++◌, replicate, is_ok, vec_items, sym, refl, ap, ◌∙◌}
+use Rattle.std.proofs.Common.{cond, ◌++◌, replicate, is_ok, vec_items, sym, refl, ap, ◌∙◌}
 use Rattle.lines.specs.LastLine.{last_fields, last_mark}
 use Rattle.report.proofs.LastLines.{filled}
 use Rattle.report.proofs.whole.print_last.Goals as goal
