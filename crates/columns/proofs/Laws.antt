@@ -4,7 +4,7 @@ use native.Mathlib.Nat.{one-le-pow, pow-le-pow_right}
 use lib.Signed.{le_z}
 use Rattle.std.proofs.lemmas.Int.{ints}
 use Rattle.std.specs.Int.Digits.{digits_of, number_from_digits as number_in}
-use Rattle.std.specs.List.{AllByRecursion as All}
+use Rattle.std.specs.List.{AllByRecursion}
 use Rattle.std.specs.Str.{bytes_eq}
 use Rattle.std.proofs.lemmas.Int.Digits.{number_digits_of, number_lt, length-digits_of-le, all_below_base_digits_of}
 use Rattle.std.proofs.ByRecursion.{All-append, All-map, All-weaker}
@@ -141,26 +141,26 @@ number_from_writes cs z e = ap number e ∙ number_of_field (length cs) z
 
 -- every column of a field is printed
 
-printed_high : (n : ℕ) → All (λ b. (32 ≤ b) × (b ≤ 126)) (high n)
+printed_high : (n : ℕ) → AllByRecursion (λ b. (32 ≤ b) × (b ≤ 126)) (high n)
 printed_high n =
     All-map (λ b. (32 ≤ b) × (b ≤ 126)) (λ d. 48 + d) (digits_of 10 n)
     (All-weaker (λ d. d < 10) (λ d. (32 ≤ 48 + d) × (48 + d ≤ 126)) (λ d h. (omega arith, omega arith)) (digits_of 10 n) (all_below_base_digits_of 10 n (omega arith)))
 
-printed_digits : (n : ℕ) → All (λ b. (32 ≤ b) × (b ≤ 126)) (digits n)
+printed_digits : (n : ℕ) → AllByRecursion (λ b. (32 ≤ b) × (b ≤ 126)) (digits n)
 unfolding digits
 printed_digits zero = ((omega arith, omega arith), tt)
-printed_digits (suc n) = subst (All (λ b. (32 ≤ b) × (b ≤ 126))) (sym (digits_high (suc n) (omega arith))) (printed_high (suc n))
+printed_digits (suc n) = subst (AllByRecursion (λ b. (32 ≤ b) × (b ≤ 126))) (sym (digits_high (suc n) (omega arith))) (printed_high (suc n))
 
-pub printed_text : (z : ℤ) → All (λ b. (32 ≤ b) × (b ≤ 126)) (text z)
+pub printed_text : (z : ℤ) → AllByRecursion (λ b. (32 ≤ b) × (b ≤ 126)) (text z)
 unfolding text
 printed_text (pos n) = printed_digits n
 printed_text (negsuc n) = ((omega arith, omega arith), printed_digits (suc n))
 
-pub printed_blanks : (k : ℕ) → All (λ b. (32 ≤ b) × (b ≤ 126)) (replicate k 32)
+pub printed_blanks : (k : ℕ) → AllByRecursion (λ b. (32 ≤ b) × (b ≤ 126)) (replicate k 32)
 printed_blanks zero = tt
 printed_blanks (suc k) = ((omega arith, omega arith), printed_blanks k)
 
-pub printed_field : (w : ℕ) (z : ℤ) → All (λ b. (32 ≤ b) × (b ≤ 126)) (field w z)
+pub printed_field : (w : ℕ) (z : ℤ) → AllByRecursion (λ b. (32 ≤ b) × (b ≤ 126)) (field w z)
 unfolding field
 printed_field w z = All-append _ (replicate (w - length (text z)) 32) (text z) (printed_blanks (w - length (text z))) (printed_text z)
 

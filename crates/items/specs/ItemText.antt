@@ -1,6 +1,6 @@
 -- An item's text in fifteen columns, as a writer puts it over the front of a buffer.
 use Rattle.std.specs.Prelude.{ℕ, ◌≤◌, cond, List, length, Some, None, Ok, Err, Option, Result, nat_lt}
-use Rattle.std.specs.List.{AllByRecursion as All}
+use Rattle.std.specs.List.{AllByRecursion}
 use Rattle.columns.specs.Writing.{put}
 use Rattle.columns.specs.declared.refusal.WriteRefusal.{WriteRefusal}
 use Rattle.columns.specs.declared.refusal.WriteRefusal.TheVariants.{Narrow, Range}
@@ -11,7 +11,7 @@ item_width = 15
 
 -- blanks and visible ASCII
 abbrev pub Printed : List ℕ → Type 0
-Printed cs = All (λ b. (32 ≤ b) × (b ≤ 126)) cs
+Printed cs = AllByRecursion (λ b. (32 ≤ b) × (b ≤ 126)) cs
 
 -- the text over the front of the buffer; an item without a text has a number out of range
 abbrev pub item_put : Option (List ℕ) → List ℕ → Result (Unit {0}) WriteRefusal × List ℕ

@@ -1,6 +1,6 @@
 -- A line without fault is the text of what it says, and such a text is read as what it says.
 use Rattle.std.proofs.Common.{◌≡◌, ℕ, ◌≤◌, true, eqb, List, ◌∷◌, ◌++◌, length, get_or, take, drop, pos, Some, None, Ok, Err, Option, Result, sym, refl, ap, ◌∙◌, subst, inl, inr, arith}
-use Rattle.std.specs.List.{AllByRecursion as All}
+use Rattle.std.specs.List.{AllByRecursion}
 use Rattle.std.proofs.ByRecursion.{All-append}
 use Rattle.std.proofs.lemmas.List.{length-drop, length-append, take_all, take_at, drop_at}
 use Rattle.std.proofs.lemmas.Bool.{cond-true, cond-false, cases_Bool, eq-eqb, eqb-true, and_from, and_parts}
@@ -22,7 +22,7 @@ use Rattle.play.specs.Text.{ItemColumns, OrderFits, order_columns}
 use Rattle.play.proofs.Fields.{clash, letter_code, field_only, field_back, wide_field, by_first, by_parts, last_part}
 
 abbrev pub Printed : List ℕ → Type 0
-Printed cs = All (λ b. (32 ≤ b) × (b ≤ 126)) cs
+Printed cs = AllByRecursion (λ b. (32 ≤ b) × (b ≤ 126)) cs
 
 -- what the item kinds say of their columns
 pub record ItemLaws : Type 0 where
