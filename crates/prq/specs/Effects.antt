@@ -23,7 +23,7 @@ use Rattle.ring.proofs.Orderly.{drawn}
 use Rattle.prq.specs.Barred.{AtDoor, Unlocked}
 use Rattle.prq.specs.Keys.{key, key_up, key_unsafe}
 use Rattle.prq.specs.Promises.{AtRow}
-use Rattle.prq.specs.Turns.{on, past, Did, gives_up, starts_over, e3, e4_safe, e4_unsafe, e5_in, e6_in, e7_in, e7_out, e8_in, e11_in, d2, d3, d4_late, d4_empty, d4_token, d4_exact, d4_low, d5, d6_in, d7_in, d8_in}
+use Rattle.prq.specs.Turns.{on, past, Did, e3, e4_out, e4_safe, e4_unsafe, e5_in, e5_out, e6_in, e6_out, e7_in, e7_out, e8_in, e8_out, e11_in, e11_out, d2, d3, d4_stale, d4_late, d4_empty, d4_token, d4_exact, d4_low, d5, d6_in, d6_out, d7_in, d7_out, d8_in, d8_out}
 
 -- Neither at the door nor about to place
 abbrev pub Plain : Phase → Type 0
@@ -75,19 +75,23 @@ module _ {I : Type 0} where
 
   module _ (head : ℕ) (n : WorkerNo) (w : Worker I) (s : Cell I) (c : Epoch) where
     pub effect : (k : KindRow) (out : Turn I) → Did head n w s c k out → Effect head n w s c k out
-    effect k out (gives_up _ v e f) = looks _ _ (plain (Engine _) tt)
-    effect k out (starts_over _ e) = looks _ _ (plain (Kind D2) tt)
     effect k out e3 = looks _ _ (plain (Kind E4) tt)
+    effect k out e4_out = looks _ _ (plain (Engine _) tt)
     effect k out (e4_safe a b e) = enters _ _ refl (inl e) refl
     effect k out (e4_unsafe a b e) = looks _ _ (plain (Kind E5) tt)
     effect k out (e5_in a) = enters _ _ refl (inr a) refl
+    effect k out e5_out = looks _ _ (plain (Engine _) tt)
     effect k out (e6_in a) = puts_token a
+    effect k out e6_out = looks _ _ (plain (Engine _) tt)
     effect k out (e7_in a) = raises a
     effect k out e7_out = looks _ _ (plain (Kind E11) tt)
     effect k out (e8_in i a b) = sets_item i a b
+    effect k out e8_out = looks _ _ (plain (Engine _) tt)
     effect k out (e11_in a) = empties _ _ (ap occupied a) (plain (Engine _) tt)
+    effect k out e11_out = looks _ _ (plain (Engine _) tt)
     effect k out d2 = looks _ _ (plain (Kind D3) tt)
     effect k out d3 = looks _ _ (plain (Kind D4) tt)
+    effect k out d4_stale = looks _ _ (plain (Kind D2) tt)
     effect k out (d4_late a b) = late b
     effect k out (d4_empty v a b) = looks _ _ (plain (Kind D7) tt)
     effect k out (d4_token m v a b) = looks _ _ (plain (Kind D6) tt)
@@ -95,8 +99,11 @@ module _ {I : Type 0} where
     effect k out (d4_low i v a b) = looks _ _ (plain (Kind D8) tt)
     effect k out (d5 i v) = takes_item i v
     effect k out (d6_in a) = empties _ _ a (plain (Kind D7) tt)
+    effect k out d6_out = looks _ _ (plain (Kind D2) tt)
     effect k out (d7_in a) = lifts a
+    effect k out d7_out = looks _ _ (plain (Kind D2) tt)
     effect k out (d8_in a) = marks a
+    effect k out d8_out = looks _ _ (plain (Kind D2) tt)
 
   -- what is seen of the cell's new pair, of its new value, and of the worker's new record
   pub record PairSeen (t : Table I) (w : Worker I) (s : Cell I) (p : Pair) : Type 0 where

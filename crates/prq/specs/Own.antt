@@ -21,7 +21,7 @@ use Rattle.prq.specs.Barred.{AtDoor, Unlocked, Quiet, Clear}
 use Rattle.prq.specs.Rows.{prq_step}
 use Rattle.prq.specs.AfterTurn.{ticket_kept, lock_after, row_here, clear_after}
 use Rattle.prq.specs.Promises.{Saw, AtRow, Promise, Promised}
-use Rattle.prq.specs.Turns.{gives_up, starts_over, e3, e4_safe, e4_unsafe, e5_in, e6_in, e7_in, e7_out, e8_in, e11_in, d2, d3, d4_late, d4_empty, d4_token, d4_exact, d4_low, d5, d6_in, d7_in, d8_in, DidTurn}
+use Rattle.prq.specs.Turns.{e3, e4_out, e4_safe, e4_unsafe, e5_in, e5_out, e6_in, e6_out, e7_in, e7_out, e8_in, e8_out, e11_in, e11_out, d2, d3, d4_stale, d4_late, d4_empty, d4_token, d4_exact, d4_low, d5, d6_in, d6_out, d7_in, d7_out, d8_in, d8_out, DidTurn}
 
 module _ {I : Type 0} where
   token_number : (n m : WorkerNo) → ◌≡◌ {A = Value I} (Token n) (Token m) → m.0 ≡ n.0
@@ -78,13 +78,13 @@ module _ {I : Type 0} where
 
     pub self_kept : (out : Turn I) (d : Turned prq_step t n out) (k : KindRow) → d.standing ≡ k → DidTurn t n k out → AtRow t n (worker t n) (cell t (worker t n).ticket) k
         → Promise (then_table t n out) n out.worker out.cell
-    self_kept out d k z (gives_up _ v e f) a = tt
-    self_kept out d k z (starts_over _ e) a = tt
     self_kept out d k z e3 a = omega arith
+    self_kept out d k z e4_out a = tt
     self_kept out d k z (e4_safe x y e) a = (a, y, λ f u. clash (cc))
     self_kept out d k z (e4_unsafe x y e) a =
         (a, y, λ f u. quiet_still t o inv n _ d refl (λ g. clash (cc)) (x, unsafe_unlocked t o inv n _ d (sym (ap (λ q. q.safe) f) ∙ u)))
     self_kept out d k z (e5_in x) a = (a.0, a.1, λ f u. quiet_still t o inv n _ d refl (λ g. clash (cc)) (a.2 f u))
+    self_kept out d k z e5_out a = tt
     self_kept out d k z (e6_in x) a = (
       a.0,
       a.1,
@@ -94,12 +94,16 @@ module _ {I : Type 0} where
             (λ g _ _. clash (cc)) (λ m b h _ _ g. h (token_number n m g)),
       ),
     )
+    self_kept out d k z e6_out a = tt
     self_kept out d k z (e7_in x) a = λ _. (refl, refl)
     self_kept out d k z e7_out a = tt
     self_kept out d k z (e8_in i x y) a = tt
+    self_kept out d k z e8_out a = tt
     self_kept out d k z (e11_in x) a = tt
+    self_kept out d k z e11_out a = tt
     self_kept out d k z d2 a = omega arith
     self_kept out d k z d3 a = (a, saw _ d (ap kind_side z) refl refl (cell t (worker t n).ticket).value refl)
+    self_kept out d k z d4_stale a = tt
     self_kept out d k z (d4_late x y) a = tt
     self_kept out d k z (d4_empty v x y) a =
         (a.0, let f = ap (λ q. q.epoch.0) x in omega arith, λ f. quiet_still t o inv n _ d refl (λ g. clash (cc)) (subst (Saw t n (worker t n) (cell t (worker t n).ticket)) v a.1 f))
@@ -116,5 +120,8 @@ module _ {I : Type 0} where
         )
     self_kept out d k z (d5 i v) a = tt
     self_kept out d k z (d6_in x) a = (a.0, a.1, λ f. (refl, λ m b _ _ e. clash (cc)))
+    self_kept out d k z d6_out a = tt
     self_kept out d k z (d7_in x) a = tt
+    self_kept out d k z d7_out a = tt
     self_kept out d k z (d8_in x) a = tt
+    self_kept out d k z d8_out a = tt
