@@ -1,7 +1,7 @@
 // The two assignments: an idle worker gets an enqueue or a dequeue.
 ghost use Rattle.std.specs.Prelude.{◌≡◌, ℕ, ◌-◌, ◌<◌, ◌≤◌, length, slice_set};
 ghost use Rattle.ring.specs.declared.call.Call.TheVariants.{AssignEnqueue, AssignDequeue};
-ghost use Rattle.ring.specs.Calls.{assigned as assigned-to, starting, called};
+ghost use Rattle.ring.specs.Calls.{assigned as assigned_to, starting, called};
 ghost use Rattle.calls.specs.Promise.{table, left, Continues};
 
 use crate::guards::*;
@@ -32,7 +32,7 @@ fn assigned<I: Copy>(
     phase: Phase,
     item: Option<I>,
 ) -> Result<Answer<I>, Refusal>
-    ensures { left control.now cells.now workers.new result ≡ assigned-to (table control.now cells.now workers.old) number phase item }
+    ensures { left control.now cells.now workers.new result ≡ assigned_to (table control.now cells.now workers.old) number phase item }
 {
     if !sizes_agree(control, cells, workers) {
         return Err(Refusal::Misfit);

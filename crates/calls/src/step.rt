@@ -6,7 +6,7 @@ ghost use Rattle.ring.specs.Table.{fresh_cell, idle_worker};
 ghost use Rattle.ring.specs.Phases.{engine_side, kind_side};
 ghost use Rattle.ring.specs.Turns.{Performed};
 ghost use Rattle.ring.specs.Rows.{engine_row};
-ghost use Rattle.ring.specs.Calls.{fitting, row as row-of-phase, called};
+ghost use Rattle.ring.specs.Calls.{fitting, row as row_of_phase, called};
 ghost use Rattle.engine.specs.Engine.{counters};
 ghost use Rattle.calls.specs.Promise.{table, left, Continues};
 ghost use Rattle.calls.specs.Turns.{EngineAt, KindAt};
@@ -92,7 +92,7 @@ fn turn<I: Copy, K: RingKind<I>>(
     number: WorkerNo,
 ) -> Result<Answer<I>, Refusal>
     requires { (1 ≤ number.0) × ((number.0 - 1 < length workers.old) × (length cells.old ≡ control.old.cells)) }
-    ensures { left control.new cells.new workers.new result ≡ row-of-phase K.RingKind.step (table control.old cells.old workers.old) number (slice_index_or workers.old (number.0 - 1) idle_worker) (get_or workers.old (number.0 - 1) idle_worker).phase }
+    ensures { left control.new cells.new workers.new result ≡ row_of_phase K.RingKind.step (table control.old cells.old workers.old) number (slice_index_or workers.old (number.0 - 1) idle_worker) (get_or workers.old (number.0 - 1) idle_worker).phase }
 {
     match phase_of(workers, number) {
         Phase::Idle => Err(Refusal::Idle),

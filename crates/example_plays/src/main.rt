@@ -4,6 +4,7 @@
 
 use anyhow::anyhow;
 use play::play::LONGEST;
+use report::error::ReportError;
 use report::report::report;
 use std::{env, fs};
 
@@ -11,7 +12,8 @@ use std::{env, fs};
 fn show(rt: &HostRuntime, name: &str, bytes: &[u8]) -> anyhow::Result<()> {
     let text = match report(rt.alloc(), bytes) {
         Ok(text) => text,
-        Err(_) => return Err(anyhow!("there is not enough memory")),
+        Err(ReportError::Memory) => return Err(anyhow!("there is not enough memory")),
+        Err(ReportError::Wide) => return Err(anyhow!("a number is wider than its field")),
     };
     println!(rt; "{name}")?;
     let mut line = String::new(rt.alloc());

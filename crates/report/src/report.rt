@@ -100,17 +100,3 @@ pub fn report(heap: Global, bytes: &[u8]) -> Result<Vec<u8>, ReportError>
         Err(fault) => report_fault(heap, fault),
     }
 }
-
-// The report of a play. Its lines fit, so only memory can be wanting.
-pub fn full_report(heap: Global, bytes: &[u8]) -> Result<Vec<u8>, AllocError>
-    ensures text { IfOk result (λ v. v.items ≡ (report_of bytes.now).text) }
-    ensures fits { ReportFits bytes.now }
-    ensures orders { OrderBooksOf bytes.now }
-    ensures books { BooksOf bytes.now }
-{
-    match report(heap, bytes) {
-        Ok(text) => Ok(text),
-        Err(ReportError::Memory) => Err(AllocError),
-        Err(ReportError::Wide) => unreachable(),
-    }
-}

@@ -8,7 +8,8 @@ mod sentence;
 use crate::sentence::explain;
 use anyhow::anyhow;
 use play::play::{LONGEST, read_play};
-use report::report::full_report;
+use report::error::ReportError;
+use report::report::report;
 use std::io::{BufWriter, Read, Write};
 
 // The report on standard output. One byte more than a play may have is enough to know that it is too long.
@@ -17,9 +18,10 @@ fn run(rt: &HostRuntime) -> anyhow::Result<()> {
     let mut bytes = Vec::new(heap);
     let most = LONGEST as u64 + 1;
     rt.stdin().take(most).read_to_end(&mut bytes)?;
-    let text = match full_report(heap, bytes.as_slice()) {
+    let text = match report(heap, bytes.as_slice()) {
         Ok(text) => text,
-        Err(_) => return Err(anyhow!("ringplay: there is not enough memory")),
+        Err(ReportError::Memory) => return Err(anyhow!("ringplay: there is not enough memory")),
+        Err(ReportError::Wide) => return Err(anyhow!("ringplay: a number is wider than its field")),
     };
     let mut out = BufWriter::new(heap, rt.stdout())?;
     out.write_all(text.as_slice())?;

@@ -15,7 +15,7 @@ fn explain_line(rt: &HostRuntime, line: usize, fault: LineFault) -> anyhow::Resu
             let column = found.column;
             match found.refusal {
                 ReadRefusal::Form => eprintln!(rt;
-                    "line {line}, column {column}: a right-justified number without leading zeros, an item's word, or blanks behind flush and stop, are expected here"
+                    "line {line}, column {column}: a right-justified number without leading zeros, or an item's word, is expected here"
                 )?,
                 ReadRefusal::Range => eprintln!(rt;
                     "line {line}, column {column}: the number is out of its range"

@@ -1,5 +1,5 @@
 -- By the text of the order that stands in front.
-use Rattle.std.proofs.Common.{◌≡◌, ◌+◌, ◌-◌, ◌++◌, get_or, take, Ok, sym, ap, ◌∙◌, arith}
+use Rattle.std.proofs.Common.{◌≡◌, ◌+◌, ◌-◌, ◌<◌, length, ◌++◌, get_or, take, Ok, sym, ap, ◌∙◌, arith}
 use Rattle.std.proofs.lemmas.List.{take_rest}
 use Rattle.play.specs.Letters.{letter_of}
 use Rattle.play.specs.Orders.{plain, heard, order_reading}
@@ -9,17 +9,14 @@ use Rattle.play.proofs.Fields.{never_both}
 use Rattle.play.proofs.ItemKinds.{item_laws}
 use Rattle.play.proofs.NextOrder.{front_room, front_ends, front_read, read_front}
 use Rattle.play.proofs.next.next_order.Goals as goal
-use Rattle.play.proofs.next.next_order.Goals.{then-rest-width-via-then-rest-width, then-rest-width-via-else-rest-width+then-rest-width-ne-LF}
 
 pub returns-then-rest-width : goal.returns-then-rest-width
 returns-then-rest-width c = λ o more fits front.
     let rest = c.args.rest.now in
     let opens : order_letter 1 (letter_of (get_or rest 0 0)) ≡ Ok c.in-Ok.letter = cc in
-    elim c.then-rest-width.branch [
-      | then-rest-width-via-then-rest-width w ↦ omega (arith, front_room item_laws c.args.items rest o more fits front 1 c.in-Ok.letter opens, w.if-rest-width.true)
-      | then-rest-width-via-else-rest-width+then-rest-width-ne-LF w ↦
-          w.if-rest-width-ne-LF.true (ap (λ m. get_or rest m 0) c.width-width.ensures ∙ front_ends item_laws c.args.items rest o more fits front 1 c.in-Ok.letter opens)
-    ]
+    let room = front_room item_laws c.args.items rest o more fits front 1 c.in-Ok.letter opens in
+    let ends = ap (λ m. get_or rest m 0) c.width-width.ensures ∙ front_ends item_laws c.args.items rest o more fits front 1 c.in-Ok.letter opens in
+    grind arith
 
 pub returns-in-Ok-read_order : goal.returns-in-Ok-read_order
 returns-in-Ok-read_order c =
@@ -27,7 +24,9 @@ returns-in-Ok-read_order c =
     let opens : order_letter 1 (letter_of (get_or rest 0 0)) ≡ Ok c.in-Ok.letter = cc in
     let none : c.width-width.result - 0 ≡ c.width-width.result = omega arith in
     let read = ap (λ m. order_reading c.args.items c.in-Ok.letter (take m rest)) (sym none) ∙ sym c.read_order.ensures ∙ ap heard c.in-Ok-read_order.is in
-    let said = read_front item_laws c.args.items rest 1 c.width-width.result c.in-Ok.letter (plain c.in-Ok-read_order.order) opens c.width-width.ensures c.if-rest-width.false c.if-rest-width-ne-LF.false read in
+    let room : c.width-width.result < length rest = omega arith in
+    let ended : get_or rest c.width-width.result 0 ≡ 10 = cc in
+    let said = read_front item_laws c.args.items rest 1 c.width-width.result c.in-Ok.letter (plain c.in-Ok-read_order.order) opens c.width-width.ensures room ended read in
     (said.0, said.1 ∙ ap (λ x. order_text (plain c.in-Ok-read_order.order) ++ x) (sym (take_rest rest (c.width-width.result + 1))))
 
 pub returns-in-Err : goal.returns-in-Err
