@@ -1,5 +1,5 @@
 #!/usr/bin/env python3
-"""Respells the repository's own definitions and lemmas in snake case: times-of for times_of.
+"""Respells the repository's own definitions and lemmas in snake case: times_of for times-of.
 
 usage: python3 tools/respell.py [--list] [ROOT]     once, right after port.py
 

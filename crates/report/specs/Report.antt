@@ -58,14 +58,14 @@ BooksBy (Err f) = Unit {0}
 abbrev pub BooksOf : List ℕ → Type 0
 BooksOf bytes = BooksBy (play_reading bytes)
 
--- the books of the run that a play without fault orders
+-- the books of the very calls that the orders of a play without fault make
 abbrev pub ChosenOrderBooks : RingChoice → ItemChoice → ℕ → ℕ → List PlainOrder → Type 0
 ChosenOrderBooks ring.Crq item.Patch r w os = OrderBooks patch_text patch_reading crq_step r w os
 ChosenOrderBooks ring.Crq item.Job r w os = OrderBooks job_text job_reading crq_step r w os
 ChosenOrderBooks ring.Prq item.Patch r w os = OrderBooks patch_text patch_reading prq_step r w os
 ChosenOrderBooks ring.Prq item.Job r w os = OrderBooks job_text job_reading prq_step r w os
 
--- by what the play was read as: a play with a fault runs nothing and has no books
+-- by what the play was read as: a play with a fault makes no call
 abbrev pub OrderBooksBy : Result PlainPlay PlayFault → Type 0
 OrderBooksBy (Ok p) = ChosenOrderBooks p.header.ring p.header.items p.header.cells p.header.workers p.orders
 OrderBooksBy (Err f) = Unit {0}
