@@ -73,7 +73,7 @@ impl<I: Copy> RingKind<I> for Crq {
 }
 
 // The books of every run with CRQ close, they fill, and nothing is invented.
-pub fn crq_books_close<I: Copy>() -> u8
+pub fn crq_books_close<I: Copy>()
     ensures close { BooksClose {I = I} crq_step }
     ensures fill { BooksFill {I = I} crq_step }
     ensures origin { ItemsAssigned {I = I} crq_step }

@@ -75,7 +75,7 @@ impl<I: Copy> RingKind<I> for Prq {
 }
 
 // The books of every run with PRQ close, they fill, and nothing is invented.
-pub fn prq_books_close<I: Copy>() -> u8
+pub fn prq_books_close<I: Copy>()
     ensures close { BooksClose {I = I} prq_step }
     ensures fill { BooksFill {I = I} prq_step }
     ensures origin { ItemsAssigned {I = I} prq_step }

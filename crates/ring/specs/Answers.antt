@@ -1,5 +1,5 @@
 -- The numbers of answers and refusals, and what an answer carries.
-use Rattle.std.specs.Prelude.{ℕ, Bool, true, false, Some, None, Option}
+use Rattle.std.specs.Prelude.{ℕ, Bool, true, false, Some, None, Ok, Err, Option, Result}
 use Rattle.tickets.specs.declared.Ticket.{Ticket}
 use Rattle.ring.specs.declared.answers.Answer.{Answer}
 use Rattle.ring.specs.declared.answers.Answer.TheVariants.{Assigned, Working, Placed, Taken, PassedOver, Empty, Full, Closed}
@@ -60,3 +60,8 @@ refusal_number Nobody = 14
 refusal_number Busy = 15
 refusal_number Idle = 16
 refusal_number Spent = 17
+
+-- the number of what a call replies: its answer's, or its refusal's
+abbrev pub reply_number : {I : Type 0} → Result (Answer I) Refusal → ℕ
+reply_number (Ok a) = answer_number a
+reply_number (Err r) = refusal_number r

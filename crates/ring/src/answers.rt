@@ -1,6 +1,6 @@
 // What a call answers, and why it refuses. Numbers are given by definitions, which every promise cites.
 ghost use Rattle.std.specs.Prelude.{◌≡◌};
-ghost use Rattle.ring.specs.Answers.{answer_number, answer_ticket, answer_item, ends_operation, refusal_number};
+ghost use Rattle.ring.specs.Answers.{answer_number, answer_ticket, answer_item, ends_operation, refusal_number, reply_number};
 
 use tickets::*;
 
@@ -17,20 +17,21 @@ pub enum Answer<I> {
     Closed(Ticket, I),
 }
 
-// Why a call is refused. A refusal leaves everything as it was.
+// Why a call is refused, each by its number. A refusal leaves everything as it was.
 #[derive(Clone, Copy, PartialEq, Eq, Debug)]
 pub enum Refusal {
-    Ring,
-    Crew,
-    Misfit,
-    Nobody,
-    Busy,
-    Idle,
-    Spent,
+    Ring = 11,
+    Crew = 12,
+    Misfit = 13,
+    Nobody = 14,
+    Busy = 15,
+    Idle = 16,
+    Spent = 17,
 }
 
 impl<I: Copy> Answer<I> {
     // 0 assigned, 1 working, 2 placed, 3 taken, 4 passed over, 5 empty, 6 full, 7 closed.
+    // A match: `as` gives the number of a case only where no case carries anything, and here most carry a ticket.
     pub fn number(self) -> u8
         ensures { result ≡ answer_number self }
     {
@@ -86,14 +87,16 @@ impl Refusal {
     pub fn number(self) -> u8
         ensures { result ≡ refusal_number self }
     {
-        match self {
-            Refusal::Ring => 11,
-            Refusal::Crew => 12,
-            Refusal::Misfit => 13,
-            Refusal::Nobody => 14,
-            Refusal::Busy => 15,
-            Refusal::Idle => 16,
-            Refusal::Spent => 17,
-        }
+        self as u8
+    }
+}
+
+// The number of what a call replies: its answer's, or its refusal's.
+pub fn reply_number<I: Copy>(reply: Result<Answer<I>, Refusal>) -> u8
+    ensures { result ≡ reply_number reply }
+{
+    match reply {
+        Ok(answer) => answer.number(),
+        Err(refusal) => refusal.number(),
     }
 }

@@ -12,7 +12,7 @@ impl Pair {
     pub fn is_still(self, found: Pair) -> bool
         ensures { result ≡ same_pair self found }
     {
-        self.safe == found.safe && self.epoch.0 == found.epoch.0
+        self == found
     }
 }
 
@@ -23,7 +23,7 @@ impl<I: Copy> Value<I> {
     {
         match (self, found) {
             (Value::Empty, Value::Empty) => true,
-            (Value::Token(n), Value::Token(m)) => n.0 == m.0,
+            (Value::Token(n), Value::Token(m)) => n == m,
             _ => false,
         }
     }
@@ -32,35 +32,26 @@ impl<I: Copy> Value<I> {
     pub fn is_empty(self) -> bool
         ensures { result ≡ is_empty self }
     {
-        match self {
-            Value::Empty => true,
-            _ => false,
-        }
+        matches!(self, Value::Empty)
     }
 
     // The number of a worker that means to place its item.
     pub fn is_token(self) -> bool
         ensures { result ≡ is_token self }
     {
-        match self {
-            Value::Token(_) => true,
-            _ => false,
-        }
+        matches!(self, Value::Token(_))
     }
 
     // A cell with an item is occupied.
     pub fn is_item(self) -> bool
         ensures { result ≡ occupied self }
     {
-        match self {
-            Value::Item(_) => true,
-            _ => false,
-        }
+        matches!(self, Value::Item(_))
     }
 }
 
 impl<I: Copy> Cell<I> {
-    // A cell of a new table.
+    // A cell of a new table. Not a Default: a derived one would not be Safe, and the name says where the cell stands.
     pub fn fresh() -> Cell<I>
         ensures { result ≡ fresh_cell }
     {
@@ -75,7 +66,7 @@ impl<I: Copy> Cell<I> {
 }
 
 impl<I: Copy> Worker<I> {
-    // The record of an idle worker.
+    // The record of an idle worker. Not a Default: a derived one would ask for a Default of the item.
     pub fn idle() -> Worker<I>
         ensures { result ≡ idle_worker }
     {

@@ -5,7 +5,7 @@ ghost use Rattle.ring.specs.Phases.{engine_side, kind_side};
 use tickets::*;
 
 // The Safe bit of a cell and its epoch, read and swapped as one word.
-#[derive(Clone, Copy)]
+#[derive(Clone, Copy, PartialEq, Eq, Debug)]
 pub struct Pair {
     pub safe: bool,
     pub epoch: Epoch,
