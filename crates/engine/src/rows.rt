@@ -1,29 +1,52 @@
 // Each row reads fields of the worker's record and writes the record whole.
-ghost use Rattle.std.specs.Prelude.{◌≡◌};
+ghost use Rattle.std.specs.Prelude.{◌≡◌, ℕ, ◌+◌, ◌≤◌, ◌==◌, if◌then◌else◌, Ok, Err};
+ghost use Rattle.std.specs.Option.{ok_or};
+ghost use Rattle.ring.specs.declared.answers.Refusal.TheVariants.{Misfit, Spent};
+ghost use Rattle.ring.specs.Fields.{with_phase, with_ticket, finished as ended};
 ghost use Rattle.ring.specs.Phases.{engine_side};
 ghost use Rattle.ring.specs.Rows.{draw_tail, read_closed, read_head, set_closed, draw_head, read_tail, engine_row};
-ghost use Rattle.ring.specs.Calls.{fitting};
+ghost use Rattle.ring.specs.Calls.{carries, fitting};
+ghost use Rattle.ring.specs.Table.{counter_limit, ticket as with_number};
 ghost use Rattle.engine.specs.Engine.{Does};
 
-use crate::fits::{LIMIT, fits};
+use crate::fits::fits;
 use ring::answers::*;
-use ring::control::Control;
+use ring::control::{COUNTER_LIMIT, Control};
 use ring::table::*;
 use tickets::*;
+
+// The worker draws a ticket from Head or Tail and goes on. The counter comes back as it is after that.
+fn draw<I: Copy>(counter: u64, worker: &mut Worker<I>, phase: Phase) -> Result<u64, Refusal>
+    requires { counter ≤ 1000000000000 }
+    ensures counter { result ≡ if counter == counter_limit then Err Spent else Ok (counter + 1) }
+    ensures record { worker.new ≡ if counter == counter_limit then worker.old else with_phase (with_ticket worker.old (with_number counter)) phase }
+{
+    if counter == COUNTER_LIMIT {
+        return Err(Refusal::Spent);
+    }
+    *worker = Worker {
+        phase,
+        ticket: Ticket(counter),
+        ..*worker
+    };
+    Ok(counter + 1)
+}
+
+// The worker gives up: its operation ends, and its item comes back.
+fn hand_back<I: Copy>(worker: &mut Worker<I>) -> Result<I, Refusal>
+    ensures item { result ≡ ok_or worker.old.item Misfit }
+    ensures record { worker.new ≡ if carries worker.old.item then ended worker.old else worker.old }
+{
+    let item = worker.item.ok_or(Refusal::Misfit)?;
+    *worker = worker.finished();
+    Ok(item)
+}
 
 // Row E1: draw a ticket from Tail.
 fn tail_drawn<I: Copy>(control: &mut Control, worker: &mut Worker<I>) -> Result<Answer<I>, Refusal>
     ensures { Does draw_tail control.old worker.old result control.new worker.new }
 {
-    if control.tail == LIMIT {
-        return Err(Refusal::Spent);
-    }
-    *worker = Worker {
-        phase: Phase::Engine(EngineRow::E2),
-        ticket: Ticket(control.tail),
-        ..*worker
-    };
-    control.tail += 1;
+    control.tail = draw(control.tail, worker, Phase::Engine(EngineRow::E2))?;
     Ok(Answer::Working)
 }
 
@@ -32,12 +55,8 @@ fn closed_read<I: Copy>(control: &Control, worker: &mut Worker<I>) -> Result<Ans
     ensures { Does read_closed control.now worker.old result control.now worker.new }
 {
     if control.closed {
-        let Some(item) = worker.item else {
-            return Err(Refusal::Misfit);
-        };
         let ticket = worker.ticket;
-        *worker = worker.finished();
-        return Ok(Answer::Closed(ticket, item));
+        return Ok(Answer::Closed(ticket, hand_back(worker)?));
     }
     *worker = Worker {
         phase: Phase::Kind(KindRow::E3),
@@ -66,11 +85,8 @@ fn head_read<I: Copy>(control: &Control, worker: &mut Worker<I>) -> Result<Answe
 fn closed_set<I: Copy>(control: &mut Control, worker: &mut Worker<I>) -> Result<Answer<I>, Refusal>
     ensures { Does set_closed control.old worker.old result control.new worker.new }
 {
-    let Some(item) = worker.item else {
-        return Err(Refusal::Misfit);
-    };
     let ticket = worker.ticket;
-    *worker = worker.finished();
+    let item = hand_back(worker)?;
     control.closed = true;
     Ok(Answer::Full(ticket, item))
 }
@@ -79,15 +95,7 @@ fn closed_set<I: Copy>(control: &mut Control, worker: &mut Worker<I>) -> Result<
 fn head_drawn<I: Copy>(control: &mut Control, worker: &mut Worker<I>) -> Result<Answer<I>, Refusal>
     ensures { Does draw_head control.old worker.old result control.new worker.new }
 {
-    if control.head == LIMIT {
-        return Err(Refusal::Spent);
-    }
-    *worker = Worker {
-        phase: Phase::Kind(KindRow::D2),
-        ticket: Ticket(control.head),
-        ..*worker
-    };
-    control.head += 1;
+    control.head = draw(control.head, worker, Phase::Kind(KindRow::D2))?;
     Ok(Answer::Working)
 }
 
