@@ -26,7 +26,7 @@ use ring::kind::*;
 use ring::table::*;
 use ring::theorem::books_close;
 use tickets::*;
-use turns::found::*;
+use turns::due::Due;
 
 // CRQ as a ring kind; it has no state of its own.
 #[derive(Clone, Copy)]
@@ -66,9 +66,7 @@ impl<I: Copy> RingKind<I> for Crq {
     ) -> Result<Answer<I>, Refusal>
         ensures { Performed (crq_step ring head number worker.old cell.old) worker.old cell.old result worker.new cell.new }
     {
-        let row = row_of(worker)?;
-        let found = Found::of(ring, head, number, worker);
-        take_turn(found, row, worker, cell)
+        take_turn(Due::of(ring, head, number, worker)?, worker, cell)
     }
 }
 

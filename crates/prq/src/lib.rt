@@ -28,7 +28,7 @@ use ring::kind::*;
 use ring::table::*;
 use ring::theorem::books_close;
 use tickets::*;
-use turns::found::*;
+use turns::due::Due;
 
 // PRQ as a ring kind; it has no state of its own.
 #[derive(Clone, Copy)]
@@ -68,9 +68,7 @@ impl<I: Copy> RingKind<I> for Prq {
     ) -> Result<Answer<I>, Refusal>
         ensures { Performed (prq_step ring head number worker.old cell.old) worker.old cell.old result worker.new cell.new }
     {
-        let row = row_of(worker)?;
-        let found = Found::of(ring, head, number, worker);
-        take_turn(found, row, worker, cell)
+        take_turn(Due::of(ring, head, number, worker)?, worker, cell)
     }
 }
 

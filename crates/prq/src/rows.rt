@@ -1,4 +1,6 @@
 // The rows of PRQ. A worker at each of them reads or swaps one word: the cell's pair, the cell's value, or Head.
+// Record and cell are lent one by one: a struct that holds both `&mut` would have each row promise, besides what it does,
+// that both still are the caller's.
 ghost use Rattle.std.specs.Prelude.{◌≡◌};
 ghost use Rattle.ring.specs.declared.table.KindRow.TheVariants.{E4, E6, E7, E8, E11, D4, D6, D7, D8};
 ghost use Rattle.turns.specs.Found.{RowDone};
@@ -7,6 +9,7 @@ ghost use Rattle.prq.specs.Rows.{prq_rows, by_value};
 use ring::answers::*;
 use ring::table::*;
 use tickets::*;
+use turns::due::Due;
 use turns::found::Found;
 use turns::*;
 
@@ -14,7 +17,7 @@ use turns::*;
 fn e4<I: Copy>(found: Found, worker: &mut Worker<I>, cell: &Cell<I>) -> Result<Answer<I>, Refusal>
     ensures { RowDone prq_rows found E4 worker.old cell.now result worker.new cell.now }
 {
-    if cell.value.is_item() || found.round.0 <= worker.pair.epoch.0 {
+    if cell.value.is_item() || found.round <= worker.pair.epoch {
         return read_value(worker, cell, Phase::Engine(EngineRow::E9));
     }
     let next = if worker.pair.safe {
@@ -51,7 +54,11 @@ fn e7<I: Copy>(
     if !worker.pair.is_still(cell.pair) {
         return go_on(worker, Phase::Kind(KindRow::E11));
     }
-    swap_pair(cell, true, found.round);
+    let pair = Pair {
+        safe: true,
+        epoch: found.round,
+    };
+    swap_pair(cell, pair);
     go_on(worker, Phase::Kind(KindRow::E8))
 }
 
@@ -90,7 +97,8 @@ fn by_value<I: Copy>(value: Value<I>, exact: bool) -> KindRow
     match value {
         Value::Empty => KindRow::D7,
         Value::Token(_) => KindRow::D6,
-        Value::Item(_) => { if exact { KindRow::D5 } else { KindRow::D8 } }
+        Value::Item(_) if exact => KindRow::D5,
+        Value::Item(_) => KindRow::D8,
     }
 }
 
@@ -102,10 +110,10 @@ fn d4<I: Copy>(found: Found, worker: &mut Worker<I>, cell: &Cell<I>) -> Result<A
     if !worker.pair.is_still(again) {
         return go_on(worker, Phase::Kind(KindRow::D2));
     }
-    if found.round.0 < again.epoch.0 {
+    if found.round < again.epoch {
         return pass_over(worker);
     }
-    let next = by_value(worker.value, again.epoch.0 == found.round.0);
+    let next = by_value(worker.value, again.epoch == found.round);
     go_on(worker, Phase::Kind(next))
 }
 
@@ -135,7 +143,11 @@ fn d7<I: Copy>(
     if !worker.pair.is_still(cell.pair) {
         return go_on(worker, Phase::Kind(KindRow::D2));
     }
-    swap_pair(cell, cell.pair.safe, found.round);
+    let pair = Pair {
+        epoch: found.round,
+        ..cell.pair
+    };
+    swap_pair(cell, pair);
     pass_over(worker)
 }
 
@@ -150,33 +162,36 @@ fn d8<I: Copy>(
     if !worker.pair.is_still(cell.pair) {
         return go_on(worker, Phase::Kind(KindRow::D2));
     }
-    swap_pair(cell, false, cell.pair.epoch);
+    let pair = Pair {
+        safe: false,
+        ..cell.pair
+    };
+    swap_pair(cell, pair);
     pass_over(worker)
 }
 
-// The row that the worker stands at.
+// The row that is due.
 pub(crate) fn take_turn<I: Copy>(
-    found: Found,
-    row: KindRow,
+    due: Due,
     worker: &mut Worker<I>,
     cell: &mut Cell<I>,
 ) -> Result<Answer<I>, Refusal>
-    ensures { RowDone prq_rows found row worker.old cell.old result worker.new cell.new }
+    ensures { RowDone prq_rows due.found due.row worker.old cell.old result worker.new cell.new }
 {
-    match row {
+    match due.row {
         KindRow::E3 => read_pair(worker, cell, Phase::Kind(KindRow::E4)),
-        KindRow::E4 => e4(found, worker, cell),
-        KindRow::E5 => read_head(worker, found.head),
-        KindRow::E6 => e6(found, worker, cell),
-        KindRow::E7 => e7(found, worker, cell),
-        KindRow::E8 => e8(found, worker, cell),
-        KindRow::E11 => e11(found, worker, cell),
+        KindRow::E4 => e4(due.found, worker, cell),
+        KindRow::E5 => read_head(worker, due.found.head),
+        KindRow::E6 => e6(due.found, worker, cell),
+        KindRow::E7 => e7(due.found, worker, cell),
+        KindRow::E8 => e8(due.found, worker, cell),
+        KindRow::E11 => e11(due.found, worker, cell),
         KindRow::D2 => read_pair(worker, cell, Phase::Kind(KindRow::D3)),
         KindRow::D3 => read_value(worker, cell, Phase::Kind(KindRow::D4)),
-        KindRow::D4 => d4(found, worker, cell),
+        KindRow::D4 => d4(due.found, worker, cell),
         KindRow::D5 => take(worker, cell),
-        KindRow::D6 => d6(found, worker, cell),
-        KindRow::D7 => d7(found, worker, cell),
-        KindRow::D8 => d8(found, worker, cell),
+        KindRow::D6 => d6(due.found, worker, cell),
+        KindRow::D7 => d7(due.found, worker, cell),
+        KindRow::D8 => d8(due.found, worker, cell),
     }
 }

@@ -9,9 +9,6 @@ use ring::control::COUNTER_LIMIT;
 use ring::table::*;
 use tickets::*;
 
-// The greatest ticket.
-const LAST_TICKET: u64 = COUNTER_LIMIT - 1;
-
 // Head, the worker's number, and its ticket's round. Its record and its ticket's cell stand beside it.
 #[derive(Clone, Copy)]
 pub struct Found {
@@ -39,11 +36,8 @@ pub fn row_of<I: Copy>(worker: &Worker<I>) -> Result<KindRow, Refusal>
     ensures value { result ≡ row_of worker.now }
     ensures inside { elim result [ Ok k ↦ (worker.now.phase ≡ Kind k) × (worker.now.ticket.0 < 1000000000000) | Err e ↦ e ≡ Misfit ] }
 {
-    if worker.ticket.0 > LAST_TICKET {
-        return Err(Refusal::Misfit);
-    }
     match worker.phase {
-        Phase::Kind(row) => Ok(row),
+        Phase::Kind(row) if worker.ticket < Ticket(COUNTER_LIMIT) => Ok(row),
         _ => Err(Refusal::Misfit),
     }
 }

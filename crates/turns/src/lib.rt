@@ -5,6 +5,7 @@
 // Rests on: tickets, ring.
 #![tactic(auto)]
 
+pub mod due;
 pub mod found;
 
 ghost use Rattle.std.specs.Prelude.{◌≡◌, if◌then◌else◌, Ok, nat_le};
@@ -93,13 +94,10 @@ pub fn swap_value<I: Copy>(cell: &mut Cell<I>, value: Value<I>)
 }
 
 // The cell gets another pair; its value stays.
-pub fn swap_pair<I: Copy>(cell: &mut Cell<I>, safe: bool, epoch: Epoch)
-    ensures { cell.new ≡ with_cell_pair cell.old (record { safe = safe; epoch = epoch }) }
+pub fn swap_pair<I: Copy>(cell: &mut Cell<I>, pair: Pair)
+    ensures { cell.new ≡ with_cell_pair cell.old pair }
 {
-    *cell = Cell {
-        pair: Pair { safe, epoch },
-        ..*cell
-    };
+    *cell = Cell { pair, ..*cell };
 }
 
 // The worker's item is placed in the cell, where it has one.
@@ -107,14 +105,10 @@ pub fn place<I: Copy>(worker: &mut Worker<I>, cell: &mut Cell<I>) -> Result<Answ
     ensures { Performed (places worker.old cell.old worker.old.item) worker.old cell.old result worker.new cell.new }
 {
     let ticket = worker.ticket;
-    match worker.item {
-        Some(item) => {
-            *worker = worker.finished();
-            swap_value(cell, Value::Item(item));
-            Ok(Answer::Placed(ticket, item))
-        }
-        None => Err(Refusal::Misfit),
-    }
+    let item = worker.item.ok_or(Refusal::Misfit)?;
+    *worker = worker.finished();
+    swap_value(cell, Value::Item(item));
+    Ok(Answer::Placed(ticket, item))
 }
 
 // The item that the worker read is taken, and the cell emptied.
@@ -122,12 +116,10 @@ pub fn take<I: Copy>(worker: &mut Worker<I>, cell: &mut Cell<I>) -> Result<Answe
     ensures { Performed (takes worker.old cell.old worker.old.value) worker.old cell.old result worker.new cell.new }
 {
     let ticket = worker.ticket;
-    match worker.value {
-        Value::Item(item) => {
-            *worker = worker.finished();
-            swap_value(cell, Value::Empty);
-            Ok(Answer::Taken(ticket, item))
-        }
-        _ => Err(Refusal::Misfit),
-    }
+    let Value::Item(item) = worker.value else {
+        return Err(Refusal::Misfit);
+    };
+    *worker = worker.finished();
+    swap_value(cell, Value::Empty);
+    Ok(Answer::Taken(ticket, item))
 }
