@@ -79,16 +79,11 @@ pub fn crq_books_close<I: Copy>()
     books_close::<I, Crq>()
 }
 
-// The runs are computed, step by step.
-fn come_out<I: Copy>()
-    ensures { CrqRunsStand I }
-{}
-
-// The worked runs of CRQ come out as told. There are this many.
+// The worked runs of CRQ come out as told: they are computed, step by step. There are this many.
+#[tactic(auto, unfolding(crate::specs::Worked::CrqRunsStand))]
 pub fn crq_runs_stand<I: Copy>() -> u8
     ensures runs { CrqRunsStand I }
     ensures count { result ≡ length (crq_runs {I = I}) }
 {
-    come_out::<I>();
     1
 }

@@ -81,16 +81,11 @@ pub fn prq_books_close<I: Copy>()
     books_close::<I, Prq>()
 }
 
-// The runs are computed, step by step.
-fn come_out<I: Copy>()
-    ensures { PrqRunsStand I }
-{}
-
-// The worked runs of PRQ come out as told. There are this many.
+// The worked runs of PRQ come out as told: they are computed, step by step. There are this many.
+#[tactic(auto, unfolding(crate::specs::Worked::PrqRunsStand))]
 pub fn prq_runs_stand<I: Copy>() -> u8
     ensures runs { PrqRunsStand I }
     ensures count { (a b c : I) → result ≡ length (prq_runs a b c) }
 {
-    come_out::<I>();
     7
 }

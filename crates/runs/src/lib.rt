@@ -8,30 +8,21 @@ ghost use Rattle.std.specs.Prelude.{◌≡◌, length};
 ghost use Rattle.runs.specs.Runs.{worked_runs, WorkedRunsStand};
 ghost use Rattle.runs.specs.Slips.{slips, EachBreaks};
 
-// The runs are computed, step by step.
-fn come_out<I: Copy>()
-    ensures { WorkedRunsStand I }
-{}
-
-// Every worked run comes out as told. There are this many.
+// Every worked run comes out as told: they are computed, step by step. There are this many.
+#[tactic(auto, unfolding(crate::specs::Runs::WorkedRunsStand))]
 pub fn worked_runs_stand<I: Copy>() -> u8
     ensures runs { WorkedRunsStand I }
     ensures count { (a b c : I) → result ≡ length (worked_runs a b c) }
 {
-    come_out::<I>();
     8
 }
 
-// A run for each slip is computed, and its books are seen not to close.
-fn break_books<I: Copy>(item: I)
-    ensures { EachBreaks {I = I} slips }
-{}
-
-// With any of the slips of old players, the books of some run do not close: one that places this item. There are this many slips.
+// With any of the slips of old players, the books of some run do not close: one that places this item, computed step by step.
+// There are this many slips.
+#[tactic(auto, using(crate::proofs::Slips::slips_break))]
 pub fn slips_break_the_books<I: Copy>(item: I) -> u8
     ensures slips { EachBreaks {I = I} slips }
     ensures count { result ≡ length (slips {I = I}) }
 {
-    break_books(item);
     4
 }
