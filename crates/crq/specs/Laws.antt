@@ -19,7 +19,6 @@ use Rattle.ring.specs.Laws.{item_of, Reached, then_table, NeitherWay, PlacesFree
 use Rattle.crq.specs.Turns.{went_on, gave_up, did_place, did_take, Came, turned_away, did_raise, did_shut}
 use Rattle.ring.specs.Table.{Table, worker, cell, occupied, Held}
 use Rattle.ring.specs.Turns.{Turn}
-use Rattle.ring.proofs.Equals.{clash}
 use Rattle.ring.proofs.Frames.{framed_there, framed_cell, framed_worker}
 use Rattle.ring.proofs.Induction.{reached_orderly}
 use Rattle.ring.proofs.Orderly.{drawn, Orderly}
@@ -44,31 +43,31 @@ module _ {I : Type 0} where
 
     placed_free : (x : KindRow) (out : Turn I) (k : Ticket) (i : I) → (worker t n).phase ≡ Kind x → Turning t n x out → out.answer ≡ Placed k i
         → (occupied (cell t k).value ≡ false) × (crq_barred t k → ⊥) × Held (then_table t n out) k i
-    placed_free x out k i h (went_on l u v y f g) a = clash (cc)
-    placed_free x out k i h (gave_up v y) a = clash (cc)
+    placed_free x out k i h (went_on l u v y f g) a = cc
+    placed_free x out k i h (gave_up v y) a = cc
     placed_free E6 out k i h (did_place j e q f) a =
         subst₂ (λ (k : Ticket) (i : I). (occupied (cell t k).value ≡ false) × (crq_barred t k → ⊥) × Held (then_table t n out) k i) (cc) (cc)
         (ap occupied f, unbarred, subst (λ (c : Cell I). (c.value ≡ Item j) × (c.pair.epoch ≡ round t.counters.cells (worker t n).ticket)) (sym (here out)) (refl, refl))
       where
         unbarred : crq_barred t (worker t n).ticket → ⊥
         unbarred (inl b) = let m = p.promised n there E6 h in let e : (worker t n).pair.epoch.0 ≡ (cell t (worker t n).ticket).pair.epoch.0 = cc in omega arith
-        unbarred (inr b) = elim b.guarded [ inl z ↦ clash (cc) | inr z ↦ z n there (record { standing = h; same_cell = refl; not_later = omega arith; read = q }) ]
-    placed_free D3 out k i h (turned_away v y) a = clash (cc)
-    placed_free D5 out k i h (did_take j e q f) a = clash (cc)
-    placed_free D7 out k i h (did_raise q f) a = clash (cc)
-    placed_free D8 out k i h (did_shut q f) a = clash (cc)
+        unbarred (inr b) = elim b.guarded [ inl z ↦ cc | inr z ↦ z n there (record { standing = h; same_cell = refl; not_later = omega arith; read = q }) ]
+    placed_free D3 out k i h (turned_away v y) a = cc
+    placed_free D5 out k i h (did_take j e q f) a = cc
+    placed_free D7 out k i h (did_raise q f) a = cc
+    placed_free D8 out k i h (did_shut q f) a = cc
 
     taken_held : (x : KindRow) (out : Turn I) (k : Ticket) (i : I) → (worker t n).phase ≡ Kind x → Turning t n x out → out.answer ≡ Taken k i → Held t k i × (out.cell.value ≡ Empty)
-    taken_held x out k i h (went_on l u v y f g) a = clash (cc)
-    taken_held x out k i h (gave_up v y) a = clash (cc)
-    taken_held E6 out k i h (did_place j e q f) a = clash (cc)
-    taken_held D3 out k i h (turned_away v y) a = clash (cc)
+    taken_held x out k i h (went_on l u v y f g) a = cc
+    taken_held x out k i h (gave_up v y) a = cc
+    taken_held E6 out k i h (did_place j e q f) a = cc
+    taken_held D3 out k i h (turned_away v y) a = cc
     taken_held D5 out k i h (did_take j e q f) a =
         let m = p.promised n there D5 h in
         let z : (cell t (worker t n).ticket).pair.epoch.0 ≡ (worker t n).ticket.0 / t.counters.cells = cc (m.1, q) in
         subst₂ (λ (k : Ticket) (i : I). Held t k i × (out.cell.value ≡ Empty)) (cc) (cc) ((m.2 j e z, λ y. record { 0 = z y }), refl)
-    taken_held D7 out k i h (did_raise q f) a = clash (cc)
-    taken_held D8 out k i h (did_shut q f) a = clash (cc)
+    taken_held D7 out k i h (did_raise q f) a = cc
+    taken_held D8 out k i h (did_shut q f) a = cc
 
     items_left : (x : KindRow) (out : Turn I) → Turning t n x out → NeitherWay out.answer
         → (item_of out.cell.value ≡ item_of (cell t (worker t n).ticket).value)
@@ -78,27 +77,27 @@ module _ {I : Type 0} where
     items_left E6 out (did_place j e q f) a = absurd (a.0 (worker t n).ticket j refl)
     items_left D3 out (turned_away v y) a = (refl, λ _. refl)
     items_left D5 out (did_take j e q f) a = absurd (a.1 (worker t n).ticket j refl)
-    items_left D7 out (did_raise q f) a = (refl, λ z. clash (cc))
+    items_left D7 out (did_raise q f) a = (refl, λ z. cc)
     items_left D8 out (did_shut q f) a = (refl, λ _. refl)
 
     abbrev PassedRightly : Turn I → Ticket → Type 0
     PassedRightly out k = ((i : I) → Held t k i → ⊥) × crq_barred (then_table t n out) k
 
     passed_barred : (x : KindRow) (out : Turn I) (k : Ticket) → (worker t n).phase ≡ Kind x → Turning t n x out → out.answer ≡ PassedOver k → PassedRightly out k
-    passed_barred x out k h (went_on l u v y f g) a = clash (cc)
-    passed_barred x out k h (gave_up v y) a = clash (cc)
-    passed_barred E6 out k h (did_place j e q f) a = clash (cc)
+    passed_barred x out k h (went_on l u v y f g) a = cc
+    passed_barred x out k h (gave_up v y) a = cc
+    passed_barred E6 out k h (did_place j e q f) a = cc
     passed_barred D3 out k h (turned_away v y) a =
         let m = p.promised n there D3 h in
         let z : (round t.counters.cells (worker t n).ticket).0 < (cell t (worker t n).ticket).pair.epoch.0 =
-        elim y [ inl u ↦ omega arith | inr u ↦ clash (cc (p.no_token (worker t n).ticket)) ]
+        elim y [ inl u ↦ omega arith | inr u ↦ cc (p.no_token (worker t n).ticket) ]
         in
         let b : (worker t n).ticket ≡ k = cc in
         subst (PassedRightly out) b (λ i g. omega (arith, ap (λ u. u.0) g.1), inl (omega (arith, ap (λ u. u.pair.epoch.0) (here out))))
-    passed_barred D5 out k h (did_take j e q f) a = clash (cc)
+    passed_barred D5 out k h (did_take j e q f) a = cc
     passed_barred D7 out k h (did_raise q f) a =
         let b : (worker t n).ticket ≡ k = cc in
-        subst (PassedRightly out) b (λ i g. clash (cc g.0), inl (omega (arith, ap (λ u. u.pair.epoch.0) (here out))))
+        subst (PassedRightly out) b (λ i g. cc g.0, inl (omega (arith, ap (λ u. u.pair.epoch.0) (here out))))
     passed_barred D8 out k h (did_shut q f) a =
         let m = p.promised n there D8 h in
         let z : (worker t n).pair.epoch.0 ≡ (cell t (worker t n).ticket).pair.epoch.0 = cc in
@@ -163,28 +162,28 @@ module _ {I : Type 0} where
           shut_still out refl b
           (λ a.
           elim (g (cc a.standing)) [
-            | inl z ↦ clash (cc (a.read, b.unsafe))
+            | inl z ↦ cc (a.read, b.unsafe)
             | inr z ↦ omega (arith, a.not_later, b.passed)
           ])
           )
-      shut_stays x out h (gave_up v y) b = inr (shut_still out refl b (λ a. clash (cc a.standing)))
+      shut_stays x out h (gave_up v y) b = inr (shut_still out refl b (λ a. cc a.standing))
       shut_stays E6 out h (did_place j e q f) b =
           elim (cases_lt k.0 (worker t n).ticket.0) [
             | inl z ↦ let y = later_round t.counters.cells k (worker t n).ticket same z in inl (omega (arith, ap (λ u. u.pair.epoch.0) (now out)))
             | inr z ↦ elim b.guarded [
-              | inl y ↦ clash (cc (was))
+              | inl y ↦ cc (was)
               | inr y ↦ absurd (y n there (record { standing = h; same_cell = sym same; not_later = z; read = q ∙ ap (λ u. u.pair) (sym was) }))
             ]
           ]
-      shut_stays D3 out h (turned_away v y) b = inr (shut_still out refl b (λ a. clash (cc a.standing)))
+      shut_stays D3 out h (turned_away v y) b = inr (shut_still out refl b (λ a. cc a.standing))
       shut_stays D5 out h (did_take j e q f) b =
           let m = (p.promised n there D5 h).1 in
           let z : (worker t n).pair.epoch.0 ≡ (cell t (worker t n).ticket).pair.epoch.0 = cc in
-          inr (shut_raised out (omega arith) refl (λ a. clash (cc)) b)
+          inr (shut_raised out (omega arith) refl (λ a. cc) b)
       shut_stays D7 out h (did_raise q f) b =
           let m = p.promised n there D7 h in
           let z : (worker t n).pair.epoch.0 ≡ (cell t (worker t n).ticket).pair.epoch.0 = cc in
-          inr (shut_raised out (omega arith) refl (λ a. clash (cc)) b)
+          inr (shut_raised out (omega arith) refl (λ a. cc) b)
       shut_stays D8 out h (did_shut q f) b =
           inr (
           record {
@@ -242,8 +241,8 @@ module _ {I : Type 0} where
       go m c a z (inl x) =
           z m (framed_there t t' f m c)
           (subst₃ (λ (r : ℕ) (u : Cell I) (w : Worker I). AboutToPlace r k u.pair w) f.ring (framed_cell t t' f k) x a)
-      go m c a z (inr (inl x)) = clash (cc)
-      go m c a z (inr (inr x)) = clash (cc)
+      go m c a z (inr (inl x)) = cc
+      go m c a z (inr (inr x)) = cc
 
   -- the laws
   pub places_free_lem : (t : Table I) → Reached crq_step t → PlacesFree crq_step Held crq_barred t

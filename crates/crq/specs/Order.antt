@@ -18,7 +18,6 @@ use Rattle.crq.specs.Turns.{went_on, gave_up, did_place, did_take, refused, Prom
 use Rattle.ring.specs.Phases.{kind_side}
 use Rattle.ring.specs.Table.{Table, worker, cell}
 use Rattle.ring.specs.Turns.{Turn, is_token}
-use Rattle.ring.proofs.Equals.{clash}
 use Rattle.ring.proofs.Frames.{framed_there, framed_cell, framed_worker}
 use Rattle.ring.proofs.Induction.{OfNew, KeptByTurns, KeptByFrames, by_turns, each_worker_after, each_cell_after}
 use Rattle.ring.proofs.Lawful.{OfReached}
@@ -71,7 +70,7 @@ module _ {I : Type 0} where
   came_onward c head w s k out a (gave_up v x) = onward_same s
   came_onward c head w s E6 out p (did_place i e q f) =
       let n : w.pair.epoch.0 ≡ s.pair.epoch.0 = cc in
-      record { rises = omega arith; stays = λ j v _. clash (cc); no_token = λ _. refl }
+      record { rises = omega arith; stays = λ j v _. cc; no_token = λ _. refl }
   came_onward c head w s D3 out a (turned_away v x) = onward_same s
   came_onward c head w s D5 out p (did_take i e q f) =
       let n : w.pair.epoch.0 ≡ s.pair.epoch.0 = cc in
@@ -105,12 +104,12 @@ module _ {I : Type 0} where
   pub came_promise : (c : Epoch) (head : ℕ) (w : Worker I) (s : Cell I) (k : KindRow) (out : Turn I) → Promise c.0 s w k → Came c head w s k (Ok out)
       → (l : KindRow) → out.worker.phase ≡ Kind l → (out.worker.ticket ≡ w.ticket) × Promise c.0 out.cell out.worker l
   came_promise c head w s k out a (went_on m p v x f g) l e = (refl, subst (Promise c.0 s out.worker) (cc) (f a))
-  came_promise c head w s k out a (gave_up v x) l e = clash (cc)
-  came_promise c head w s E6 out p (did_place i x y z) l e = clash (cc)
-  came_promise c head w s D3 out a (turned_away v x) l e = clash (cc)
-  came_promise c head w s D5 out p (did_take i x y z) l e = clash (cc)
-  came_promise c head w s D7 out p (did_raise x y) l e = clash (cc)
-  came_promise c head w s D8 out p (did_shut x y) l e = clash (cc)
+  came_promise c head w s k out a (gave_up v x) l e = cc
+  came_promise c head w s E6 out p (did_place i x y z) l e = cc
+  came_promise c head w s D3 out a (turned_away v x) l e = cc
+  came_promise c head w s D5 out p (did_take i x y z) l e = cc
+  came_promise c head w s D7 out p (did_raise x y) l e = cc
+  came_promise c head w s D8 out p (did_shut x y) l e = cc
 
   -- the worker w, whose ticket's cell is s in a ring of r cells, can rely on it
   abbrev Promised : ℕ → Cell I → Worker I → Type 0
@@ -124,7 +123,7 @@ module _ {I : Type 0} where
   new_in_order r w h =
       record {
         no_token = λ k. cc (new_cell {I = I} r w k h.0);
-        promised = λ n b k e. clash (cc (new_worker {I = I} r w n b));
+        promised = λ n b k e. cc (new_worker {I = I} r w n b);
       }
 
   turns_keep : KeptByTurns crq_step InOrder

@@ -21,8 +21,7 @@ use Rattle.ring.specs.declared.answers.Refusal.TheVariants.{Misfit}
 use Rattle.ring.specs.Fields.{with_phase, with_value, finished, with_cell_pair}
 use Rattle.ring.specs.Phases.{kind_side}
 use Rattle.ring.specs.Table.{occupied}
-use Rattle.ring.specs.Turns.{Turn, same_pair, is_empty, is_token, goes, passes, places, takes}
-use Rattle.ring.proofs.Equals.{clash}
+use Rattle.ring.specs.Turns.{Turn, same_pair, is_empty, is_token, goes, places, takes}
 use Rattle.ring.proofs.Pairs.{pair_from}
 use Rattle.ring.proofs.Values.{empty_from}
 use Rattle.crq.specs.Rows.{by_value, next_epoch, crq_rows}
@@ -93,8 +92,17 @@ module _ {I : Type 0} where
     full : same_pair w.pair s.pair && occupied s.value ≡ true → (w.pair ≡ s.pair) × (occupied s.value ≡ true)
     full e = let a = and_parts (same_pair w.pair s.pair) (occupied s.value) e in (pair_from w.pair s.pair a.0, a.1)
 
+    -- a row that tests its pair, and that the cell is empty or occupied
+    by_free : (k : KindRow) (x y : Result (Turn I) Refusal) → (w.pair ≡ s.pair → s.value ≡ Empty → Came c head w s k x) → Came c head w s k y
+        → Came c head w s k (cond (same_pair w.pair s.pair && is_empty s.value) x y)
+    by_free k x y f g = cond_both (same_pair w.pair s.pair && is_empty s.value) x y (Came c head w s k) (λ b. let a = free b in f a.0 a.1) (λ _. g)
+
+    by_full : (k : KindRow) (x y : Result (Turn I) Refusal) → (w.pair ≡ s.pair → occupied s.value ≡ true → Came c head w s k x) → Came c head w s k y
+        → Came c head w s k (cond (same_pair w.pair s.pair && occupied s.value) x y)
+    by_full k x y f g = cond_both (same_pair w.pair s.pair && occupied s.value) x y (Came c head w s k) (λ b. let a = full b in f a.0 a.1) (λ _. g)
+
     back : (k : KindRow) → kind_side k ≡ Dequeuing → Came c head w s k (goes w s (Kind D2))
-    back k e = went_on D2 w.pair w.value (inr (e, refl)) (λ _. tt) (λ z. clash (cc))
+    back k e = went_on D2 w.pair w.value (inr (e, refl)) (λ _. tt) (λ z. cc)
 
     came_place : w.pair ≡ s.pair → s.value ≡ Empty → (o : Option I) → w.item ≡ o → Came c head w s E6 (places w (with_cell_pair s (record { safe = true; epoch = c })) o)
     came_place p q None e = refused
@@ -107,15 +115,15 @@ module _ {I : Type 0} where
     came_take p q (Item i) e = did_take i e p q
 
     came_value : w.pair.epoch.0 ≤ c.0 → (v : Value I) → s.value ≡ v → Came c head w s D3 (by_value (with_value w s.value) s v (w.pair.epoch.0 == c.0))
-    came_value h Empty e = went_on D7 w.pair s.value (inr (refl, refl)) (λ p. h) (λ z. clash (cc))
+    came_value h Empty e = went_on D7 w.pair s.value (inr (refl, refl)) (λ p. h) (λ z. cc)
     came_value h (Token m) e = turned_away s.value (inr (ap is_token e))
     came_value h (Item i) e =
         cond_both (w.pair.epoch.0 == c.0) D5 D8 (λ k. Came c head w s D3 (goes (with_value w s.value) s (Kind k)))
-        (λ b. went_on D5 w.pair s.value (inr (refl, refl)) (λ p. (p, eqb-true w.pair.epoch.0 c.0 b, λ j f g. f)) (λ z. clash (cc)))
-        (λ b. let n = eqb-false w.pair.epoch.0 c.0 b in went_on D8 w.pair s.value (inr (refl, refl)) (λ p. omega arith) (λ z. clash (cc)))
+        (λ b. went_on D5 w.pair s.value (inr (refl, refl)) (λ p. (p, eqb-true w.pair.epoch.0 c.0 b, λ j f g. f)) (λ z. cc))
+        (λ b. let n = eqb-false w.pair.epoch.0 c.0 b in went_on D8 w.pair s.value (inr (refl, refl)) (λ p. omega arith) (λ z. cc))
 
     pub came_row : (k : KindRow) → Came c head w s k (crq_rows head n w s c k)
-    came_row E3 = went_on E4 s.pair w.value (inl (refl, refl)) (λ _. omega arith) (λ z. clash (cc))
+    came_row E3 = went_on E4 s.pair w.value (inl (refl, refl)) (λ _. omega arith) (λ z. cc)
     came_row E4 =
         cond_both (is_empty s.value && nat_le w.pair.epoch.0 c.0) (Kind (cond w.pair.safe E6 E5)) (Engine E9)
         (λ p. Came c head w s E4 (goes (with_value w s.value) s p))
@@ -123,36 +131,23 @@ module _ {I : Type 0} where
         let h = leb-true w.pair.epoch.0 c.0 (and_parts (is_empty s.value) (nat_le w.pair.epoch.0 c.0) b).1 in
         cond_both w.pair.safe E6 E5 (λ k. Came c head w s E4 (goes (with_value w s.value) s (Kind k)))
         (λ f. went_on E6 w.pair s.value (inl (refl, refl)) (λ p. (p, h)) (λ _. inl f))
-        (λ f. went_on E5 w.pair s.value (inl (refl, refl)) (λ p. (p, h)) (λ z. clash (cc))))
+        (λ f. went_on E5 w.pair s.value (inl (refl, refl)) (λ p. (p, h)) (λ z. cc)))
         (λ _. gave_up s.value refl)
     came_row E5 =
         cond_both (nat_le head w.ticket.0) (Kind E6) (Engine E9) (λ p. Came c head w s E5 (goes w s p))
         (λ b. went_on E6 w.pair w.value (inl (refl, refl)) (λ p. p) (λ _. inr (leb-true head w.ticket.0 b))) (λ _. gave_up w.value refl)
-    came_row E6 =
-        cond_both (same_pair w.pair s.pair && is_empty s.value) (places w (with_cell_pair s (record { safe = true; epoch = c })) w.item) (goes w s (Engine E9))
-        (Came c head w s E6) (λ b. let a = free b in came_place a.0 a.1 w.item refl) (λ _. gave_up w.value refl)
+    came_row E6 = by_free E6 _ _ (λ p q. came_place p q w.item refl) (gave_up w.value refl)
     came_row E7 = refused
     came_row E8 = refused
     came_row E11 = refused
-    came_row D2 = went_on D3 s.pair w.value (inr (refl, refl)) (λ _. omega arith) (λ z. clash (cc))
+    came_row D2 = went_on D3 s.pair w.value (inr (refl, refl)) (λ _. omega arith) (λ z. cc)
     came_row D3 =
-        cond_both (nat_lt c.0 w.pair.epoch.0) (passes (with_value w s.value) s) (by_value (with_value w s.value) s s.value (w.pair.epoch.0 == c.0))
-        (Came c head w s D3)
+        cond_both (nat_lt c.0 w.pair.epoch.0) _ _ (Came c head w s D3)
         (λ b. turned_away s.value (inl (ltb-true c.0 w.pair.epoch.0 b)))
         (λ b. came_value (ltb-false c.0 w.pair.epoch.0 b) s.value refl)
     came_row D4 = refused
     came_row D5 =
-        cond_both (occupied w.value)
-        (cond (same_pair w.pair s.pair && occupied s.value) (takes w (with_cell_pair s (record { safe = s.pair.safe; epoch = next_epoch c })) w.value) (goes w s (Kind D2)))
-        (Err Misfit) (Came c head w s D5)
-        (λ _.
-        cond_both (same_pair w.pair s.pair && occupied s.value) (takes w (with_cell_pair s (record { safe = s.pair.safe; epoch = next_epoch c })) w.value) (goes w s (Kind D2))
-        (Came c head w s D5) (λ b. let a = full b in came_take a.0 a.1 w.value refl) (λ _. back D5 refl))
-        (λ _. refused)
+        cond_both (occupied w.value) _ _ (Came c head w s D5) (λ _. by_full D5 _ _ (λ p q. came_take p q w.value refl) (back D5 refl)) (λ _. refused)
     came_row D6 = refused
-    came_row D7 =
-        cond_both (same_pair w.pair s.pair && is_empty s.value) (passes w (with_cell_pair s (record { safe = s.pair.safe; epoch = next_epoch c }))) (goes w s (Kind D2))
-        (Came c head w s D7) (λ b. let a = free b in did_raise a.0 a.1) (λ _. back D7 refl)
-    came_row D8 =
-        cond_both (same_pair w.pair s.pair && occupied s.value) (passes w (with_cell_pair s (record { safe = false; epoch = s.pair.epoch }))) (goes w s (Kind D2))
-        (Came c head w s D8) (λ b. let a = full b in did_shut a.0 a.1) (λ _. back D8 refl)
+    came_row D7 = by_free D7 _ _ did_raise (back D7 refl)
+    came_row D8 = by_full D8 _ _ did_shut (back D8 refl)

@@ -65,11 +65,12 @@ fn closed_read<I: Copy>(control: &Control, worker: &mut Worker<I>) -> Result<Ans
     Ok(Answer::Working)
 }
 
-// Row E9: read Head.
+// Row E9: read Head. The ring is full from the ticket R after it on.
 fn head_read<I: Copy>(control: &Control, worker: &mut Worker<I>) -> Result<Answer<I>, Refusal>
     ensures { Does read_head control.now worker.old result control.now worker.new }
 {
-    let row = if control.head + u64::from(control.cells) <= worker.ticket.0 {
+    let first_beyond = Ticket(control.head + u64::from(control.cells));
+    let row = if first_beyond <= worker.ticket {
         EngineRow::E10
     } else {
         EngineRow::E1
@@ -99,12 +100,12 @@ fn head_drawn<I: Copy>(control: &mut Control, worker: &mut Worker<I>) -> Result<
     Ok(Answer::Working)
 }
 
-// Row D9: read Tail, which is above 0.
+// Row D9: read Tail, which is above 0. The ticket before it is the last that an enqueue has drawn.
 fn tail_read<I: Copy>(control: &Control, worker: &mut Worker<I>) -> Result<Answer<I>, Refusal>
     ensures { Does read_tail control.now worker.old result control.now worker.new }
 {
     let ticket = worker.ticket;
-    if control.tail - 1 <= ticket.0 {
+    if Ticket(control.tail - 1) <= ticket {
         *worker = worker.finished();
         return Ok(Answer::Empty(ticket));
     }

@@ -16,7 +16,6 @@ use Rattle.ring.specs.Laws.{Turned, then_table}
 use Rattle.ring.specs.Phases.{side}
 use Rattle.ring.specs.Table.{Table, worker, cell, occupied}
 use Rattle.ring.specs.Turns.{Turn}
-use Rattle.ring.proofs.Equals.{clash}
 use Rattle.ring.proofs.Induction.{each_worker_after}
 use Rattle.ring.proofs.Orderly.{Orderly}
 use Rattle.ring.proofs.RowByRow.{kept_ticket}
@@ -85,7 +84,7 @@ module _ {I : Type 0} where
         let z = door_ticket a in
         let y = ap (λ x. x.0) z in
         elim g.2 [
-          | inl q ↦ let p : (worker t n).pair ≡ here.pair = cc in clash (cc)
+          | inl q ↦ let p : (worker t n).pair ≡ here.pair = cc in cc
           | inr (inl q) ↦ omega arith
           | inr (inr q) ↦ c n d.there q (sym e) (omega arith) (cc)
         ])

@@ -18,7 +18,6 @@ use Rattle.ring.specs.declared.answers.Answer.TheVariants.{Working, Placed, Take
 use Rattle.ring.specs.Fields.{finished, with_cell_value, with_cell_pair}
 use Rattle.ring.specs.Table.{Table, occupied}
 use Rattle.ring.specs.Turns.{Turn}
-use Rattle.ring.proofs.Equals.{clash}
 use Rattle.ring.proofs.Orderly.{drawn}
 use Rattle.prq.specs.Barred.{AtDoor, Unlocked}
 use Rattle.prq.specs.Keys.{key, key_up, key_unsafe}
@@ -128,16 +127,16 @@ module _ {I : Type 0} where
 
   module _ (t : Table I) (n : WorkerNo) (w : Worker I) (s : Cell I) where
     same_pair : PairSeen t w s s.pair
-    same_pair = record { rises = omega arith; lock = inl refl; epoch = inl refl; safe = λ e f. clash (cc) }
+    same_pair = record { rises = omega arith; lock = inl refl; epoch = inl refl; safe = λ e f. cc }
 
     same_value : ValueSeen t n w s s.value
     same_value = record { token = λ m h e. e; item = λ i e. inl e; free = λ e. inl e }
 
     no_item : {A : Type 0} (i : I) → occupied s.value ≡ false → s.value ≡ Item i → A
-    no_item i h e = let f = ap occupied e in clash (cc)
+    no_item i h e = let f = ap occupied e in cc
 
     emptied : occupied s.value ≡ false → ValueSeen t n w s Empty
-    emptied h = record { token = λ m g e. clash (cc); item = λ i e. no_item i h e; free = λ e. inl refl }
+    emptied h = record { token = λ m g e. cc; item = λ i e. no_item i h e; free = λ e. inl refl }
 
     plainly : (v : Worker I) (p : Pair) → Plain v.phase → WorkerSeen t.counters.head w s v p
     plainly v p a = record { locks = λ e. absurd (a.0 e); door = λ e. absurd (a.1 e) }
@@ -147,7 +146,7 @@ module _ {I : Type 0} where
         record {
           pair = same_pair;
           value = same_value;
-          worker = record { locks = λ z. clash (cc); door = λ z. (e, refl, elim f [ inl q ↦ inl q | inr q ↦ inr (inl q) ]) };
+          worker = record { locks = λ z. cc; door = λ z. (e, refl, elim f [ inl q ↦ inl q | inr q ↦ inr (inl q) ]) };
         }
     seen k out h a (looks _ v e) = record { pair = same_pair; value = same_value; worker = plainly v s.pair e }
     seen k out h a (late e) = record { pair = same_pair; value = same_value; worker = plainly _ _ (plain (Engine _) tt) }
@@ -155,15 +154,15 @@ module _ {I : Type 0} where
         record {
           pair = same_pair;
           value = record { token = λ m g f. absurd (g (cc)); item = λ i f. no_item i e f; free = λ _. inl refl };
-          worker = record { locks = λ z. clash (cc); door = λ z. (refl, refl, inr (inr (inl h))) };
+          worker = record { locks = λ z. cc; door = λ z. (refl, refl, inr (inr (inl h))) };
         }
     seen k out h a (empties _ p e f) = record { pair = same_pair; value = emptied e; worker = plainly _ _ f }
     seen k out h a (sets_item i e f) =
-        record { pair = same_pair; value = record { token = λ m g z. clash (cc); item = λ j z. clash (cc); free = λ z. inr (h, e) }; worker = plainly _ _ (plain Idle tt) }
+        record { pair = same_pair; value = record { token = λ m g z. cc; item = λ j z. cc; free = λ z. inr (h, e) }; worker = plainly _ _ (plain Idle tt) }
     seen k out h a (takes_item i e) =
         record {
           pair = same_pair;
-          value = record { token = λ m g z. clash (cc); item = λ j z. inr (ap drawn h, (a i e).1); free = λ _. inl refl };
+          value = record { token = λ m g z. cc; item = λ j z. inr (ap drawn h, (a i e).1); free = λ _. inl refl };
           worker = plainly _ _ (plain Idle tt);
         }
     seen k out h a (raises e) =
@@ -177,16 +176,16 @@ module _ {I : Type 0} where
         }
       where
         plain_e8 : AtDoor (Kind E8) → ⊥
-        plain_e8 (inl z) = clash (cc)
-        plain_e8 (inr z) = clash (cc)
+        plain_e8 (inl z) = cc
+        plain_e8 (inr z) = cc
     seen k out h a (lifts e) =
         let q = a.2 e in
         let l = a.1 in
         let f = ap (λ z. z.epoch.0) e in
-        record { pair = record { rises = omega arith; lock = inr q.1; epoch = inr q.0; safe = λ y z. clash (cc) }; value = same_value; worker = plainly _ _ (plain (Engine _) tt) }
+        record { pair = record { rises = omega arith; lock = inr q.1; epoch = inr q.0; safe = λ y z. cc }; value = same_value; worker = plainly _ _ (plain (Engine _) tt) }
     seen k out h a (marks e) =
         record {
-          pair = record { rises = key_unsafe s.pair; lock = inr (a.2.0 e); epoch = inl refl; safe = λ y z. clash (cc) };
+          pair = record { rises = key_unsafe s.pair; lock = inr (a.2.0 e); epoch = inl refl; safe = λ y z. cc };
           value = same_value;
           worker = plainly _ _ (plain (Engine _) tt);
         }

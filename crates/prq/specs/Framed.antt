@@ -14,7 +14,6 @@ use Rattle.ring.specs.declared.table.KindRow.TheVariants.{E3, E6, E7, E8, D2}
 use Rattle.ring.specs.declared.table.Phase.TheVariants.{Idle, Engine, Kind}
 use Rattle.ring.specs.Laws.{Framed}
 use Rattle.ring.specs.Table.{Table, worker, cell}
-use Rattle.ring.proofs.Equals.{clash}
 use Rattle.ring.proofs.Frames.{framed_there, framed_cell, framed_worker}
 use Rattle.prq.specs.Barred.{AtDoor, Unlocked, Clear}
 use Rattle.prq.specs.Promises.{AtRow, AtPhase, Promise, Promised, Bears, bears}
@@ -28,7 +27,7 @@ module _ {I : Type 0} where
 
     pub unlocked_framed : (j : ℕ) (v : Value I) → Unlocked t j v → Unlocked t' j v
     unlocked_framed j v u m b p q e =
-        let a = was_same m E8 p (λ z. clash (cc)) (λ z. clash (cc)) in
+        let a = was_same m E8 p (λ z. cc) (λ z. cc) in
         u m (framed_there t t' f m b) (cc) (cc (q, f.ring, a)) e
 
     pub clear_framed : (k : Ticket) (p : Pair) → Clear t k p → Clear t' k p
@@ -39,8 +38,8 @@ module _ {I : Type 0} where
             c m (framed_there t t' f m b) (subst (λ (w : Worker I). AtDoor w.phase) a x) (cc (q, f.ring, a)) (let z = ap (λ (w : Worker I). w.ticket.0) a in omega arith) (cc)
 
         go : AtDoor (worker t' m).phase → ⊥
-        go (inl z) = same (was_same m E6 z (λ y. clash (cc)) (λ y. clash (cc)))
-        go (inr z) = same (was_same m E7 z (λ y. clash (cc)) (λ y. clash (cc)))
+        go (inl z) = same (was_same m E6 z (λ y. cc) (λ y. cc))
+        go (inr z) = same (was_same m E7 z (λ y. cc) (λ y. cc))
 
     bears_framed : (m : WorkerNo) (k : Ticket) (x : Phase) (s : Cell I) → Bears t t' m k x s s
     bears_framed m k x s =

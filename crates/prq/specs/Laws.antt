@@ -14,7 +14,6 @@ use Rattle.ring.specs.declared.answers.Answer.TheVariants.{Placed, Taken, Passed
 use Rattle.ring.specs.Laws.{item_of, Turned, then_table, NeitherWay, PlacesFree, TakesHeld, LeavesItems, PassesBarred, Framed, StaysBarred}
 use Rattle.ring.specs.Table.{Table, one_if, worker, cell, occupied, Held}
 use Rattle.ring.specs.Turns.{Turn}
-use Rattle.ring.proofs.Equals.{clash}
 use Rattle.ring.proofs.Frames.{framed_cell}
 use Rattle.ring.proofs.Induction.{each_worker_after}
 use Rattle.ring.proofs.Orderly.{drawn, Orderly}
@@ -66,7 +65,7 @@ module _ {I : Type 0} where
           unbarred : prq_barred t (worker t n).ticket → ⊥
           unbarred (inl l) = let b = a f in omega arith
           unbarred (inr (inl q)) = q.1.1 n d.there h refl f
-          unbarred (inr (inr q)) = let b = a f in clash (cc)
+          unbarred (inr (inr q)) = let b = a f in cc
 
       places : (k : Ticket) (i : I) (j : KindRow) (out : Turn I) (d : Turned prq_step t n out) → (worker t n).phase ≡ Kind j → Does t n j out → AtRow t n (worker t n) (s t n) j → out.answer ≡ Placed k i
           → (occupied (cell t k).value ≡ false) × (prq_barred t k → ⊥) × Held (then_table t n out) k i
@@ -74,15 +73,15 @@ module _ {I : Type 0} where
           let q : (worker t n).ticket ≡ k = cc in
           let z : i' ≡ i = cc in
           subst (λ y. (occupied (cell t y).value ≡ false) × (prq_barred t y → ⊥) × Held (then_table t n out) y i) q (placing i _ d h f a (ap Item z) refl)
-      places k i j out d h (enters _ v f g x) a e = clash (cc)
-      places k i j out d h (looks _ v f) a e = clash (cc)
-      places k i j out d h (late f) a e = clash (cc)
-      places k i j out d h (puts_token f) a e = clash (cc)
-      places k i j out d h (empties _ p f g) a e = clash (cc)
-      places k i j out d h (takes_item i' f) a e = clash (cc)
-      places k i j out d h (raises f) a e = clash (cc)
-      places k i j out d h (lifts f) a e = clash (cc)
-      places k i j out d h (marks f) a e = clash (cc)
+      places k i j out d h (enters _ v f g x) a e = cc
+      places k i j out d h (looks _ v f) a e = cc
+      places k i j out d h (late f) a e = cc
+      places k i j out d h (puts_token f) a e = cc
+      places k i j out d h (empties _ p f g) a e = cc
+      places k i j out d h (takes_item i' f) a e = cc
+      places k i j out d h (raises f) a e = cc
+      places k i j out d h (lifts f) a e = cc
+      places k i j out d h (marks f) a e = cc
 
       takes : (k : Ticket) (i : I) (j : KindRow) (out : Turn I) → Does t n j out → AtRow t n (worker t n) (s t n) j → out.answer ≡ Taken k i → Held t k i × (out.cell.value ≡ Empty)
       takes k i j out (takes_item i' f) a e =
@@ -90,15 +89,15 @@ module _ {I : Type 0} where
           let z : i' ≡ i = cc in
           let q : (worker t n).ticket ≡ k = cc in
           (subst (λ y. Held t y i) q (b.0 ∙ ap Item z, λ x. record { 0 = b.1 x }), refl)
-      takes k i j out (enters _ v f g x) a e = clash (cc)
-      takes k i j out (looks _ v f) a e = clash (cc)
-      takes k i j out (late f) a e = clash (cc)
-      takes k i j out (puts_token f) a e = clash (cc)
-      takes k i j out (empties _ p f g) a e = clash (cc)
-      takes k i j out (sets_item i' f g) a e = clash (cc)
-      takes k i j out (raises f) a e = clash (cc)
-      takes k i j out (lifts f) a e = clash (cc)
-      takes k i j out (marks f) a e = clash (cc)
+      takes k i j out (enters _ v f g x) a e = cc
+      takes k i j out (looks _ v f) a e = cc
+      takes k i j out (late f) a e = cc
+      takes k i j out (puts_token f) a e = cc
+      takes k i j out (empties _ p f g) a e = cc
+      takes k i j out (sets_item i' f g) a e = cc
+      takes k i j out (raises f) a e = cc
+      takes k i j out (lifts f) a e = cc
+      takes k i j out (marks f) a e = cc
 
       leaves : (j : KindRow) (out : Turn I) → Does t n j out → AtRow t n (worker t n) (s t n) j → NeitherWay out.answer
           → (item_of out.cell.value ≡ item_of (s t n).value) × (occupied (s t n).value ≡ true → out.cell.pair.epoch ≡ (s t n).pair.epoch)
@@ -109,8 +108,8 @@ module _ {I : Type 0} where
       leaves j out (empties _ p f g) a e = (sym (free_item (s t n).value f), λ _. refl)
       leaves j out (sets_item i f g) a e = absurd (e.0 _ _ refl)
       leaves j out (takes_item i f) a e = absurd (e.1 _ _ refl)
-      leaves j out (raises f) a e = (refl, λ z. let q = (a.2 f).0 in clash (cc))
-      leaves j out (lifts f) a e = (refl, λ z. let q = (a.2 f).0 in clash (cc))
+      leaves j out (raises f) a e = (refl, λ z. let q = (a.2 f).0 in cc)
+      leaves j out (lifts f) a e = (refl, λ z. let q = (a.2 f).0 in cc)
       leaves j out (marks f) a e = (refl, λ _. refl)
 
     -- law 2
@@ -155,21 +154,21 @@ module _ {I : Type 0} where
       passes k j out d h (late f) a e = passing k _ d e refl (λ i g. let x = ap (λ y. y.0) g.1 in omega arith) (inl f)
       passes k j out d h (lifts f) a e =
           let q = a.2 f in
-          passing k _ d e refl (λ i g. let x = ap occupied g.0 in clash (cc))
-          (inr (inl (refl, (q.0, lock_after t o inv n _ d (slot r (worker t n).ticket) (λ z. clash (cc)) q.1))))
+          passing k _ d e refl (λ i g. let x = ap occupied g.0 in cc)
+          (inr (inl (refl, (q.0, lock_after t o inv n _ d (slot r (worker t n).ticket) (λ z. cc) q.1))))
       passes k j out d h (marks f) a e =
           let l = a.1 in
           let y = ap (λ z. z.epoch.0) f in
           let g = (o.dequeues n d.there (ap drawn h)).1 in
           passing k _ d e refl (λ i z. let x = ap (λ q. q.0) z.1 in omega arith)
           (inr (inr (g, refl, marked_clear _ d g (plain (Engine _) tt).1 refl (λ u. a.2.1 f (ap (λ z. z.safe) f ∙ u)))))
-      passes k j out d h (enters _ v f g x) a e = clash (cc)
-      passes k j out d h (looks _ v f) a e = clash (cc)
-      passes k j out d h (puts_token f) a e = clash (cc)
-      passes k j out d h (empties _ p f g) a e = clash (cc)
-      passes k j out d h (sets_item i f g) a e = clash (cc)
-      passes k j out d h (takes_item i f) a e = clash (cc)
-      passes k j out d h (raises f) a e = clash (cc)
+      passes k j out d h (enters _ v f g x) a e = cc
+      passes k j out d h (looks _ v f) a e = cc
+      passes k j out d h (puts_token f) a e = cc
+      passes k j out d h (empties _ p f g) a e = cc
+      passes k j out d h (sets_item i f g) a e = cc
+      passes k j out d h (takes_item i f) a e = cc
+      passes k j out d h (raises f) a e = cc
 
     -- law 5
     pub passes_barred_lem : PassesBarred prq_step Held prq_barred t

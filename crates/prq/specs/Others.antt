@@ -8,7 +8,6 @@ use Rattle.ring.specs.Calls.{is_worker}
 use Rattle.ring.specs.Laws.{Turned, then_table}
 use Rattle.ring.specs.Table.{Table, worker, cell}
 use Rattle.ring.specs.Turns.{Turn}
-use Rattle.ring.proofs.Equals.{clash}
 use Rattle.ring.proofs.Induction.{each_cell_after}
 use Rattle.ring.proofs.Orderly.{Orderly}
 use Rattle.ring.proofs.Rounds.{same_place}
@@ -38,7 +37,7 @@ module _ {I : Type 0} where
               λ i x v f.
               elim ((turn_seen t o inv n out d).value.item i v) [
                 | inl z ↦ z
-                | inr z ↦ absurd (o.apart m n b d.there g (cc) (λ y. clash (cc)) (let q : (worker t m).ticket.0 / r ≡ (worker t n).ticket.0 / r = cc in ap (λ k. k.0) (same_place r (worker t m).ticket (worker t n).ticket e (λ y. record { 0 = q y }))))
+                | inr z ↦ absurd (o.apart m n b d.there g (cc) (λ y. cc) (let q : (worker t m).ticket.0 / r ≡ (worker t n).ticket.0 / r = cc in ap (λ k. k.0) (same_place r (worker t m).ticket (worker t n).ticket e (λ y. record { 0 = q y }))))
               ];
           unlocked = λ f u. lock_after t o inv n out d (slot r (worker t m).ticket) (not_locking t o inv n out d (let z = ap (λ x. x.epoch.0) f in omega arith)) u;
           free = λ f q. free_after t o inv n out d (rw e at q);

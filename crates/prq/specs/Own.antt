@@ -14,7 +14,6 @@ use Rattle.ring.specs.Laws.{Turned, then_table}
 use Rattle.ring.specs.Phases.{kind_side}
 use Rattle.ring.specs.Table.{Table, worker, cell, occupied}
 use Rattle.ring.specs.Turns.{Turn}
-use Rattle.ring.proofs.Equals.{clash}
 use Rattle.ring.proofs.Induction.{each_worker_after}
 use Rattle.ring.proofs.Orderly.{drawn, Orderly}
 use Rattle.prq.specs.Barred.{AtDoor, Unlocked, Quiet, Clear}
@@ -36,15 +35,15 @@ module _ {I : Type 0} where
 
     -- an enqueue that only has to place its item has left the cell safe
     unsafe_unlocked : here.pair.safe ≡ false → Unlocked t (slot r (worker t n).ticket) here.value
-    unsafe_unlocked u m b p e v = let q = row_here t o inv n out d m b e E8 p v in clash (cc)
+    unsafe_unlocked u m b p e v = let q = row_here t o inv n out d m b e E8 p v in cc
 
     -- nobody at the door finds the pair as it read it where the cell is not safe and has an item
     item_clear : here.pair.safe ≡ false → occupied here.value ≡ true → Clear t (worker t n).ticket here.pair
     item_clear u h m b a e l f = go a
       where
         go : AtDoor (worker t m).phase → ⊥
-        go (inl p) = let z = ((row_here t o inv n out d m b e E6 p).2 f (cc)).0 in clash (cc)
-        go (inr p) = let z = ((row_here t o inv n out d m b e E7 p).2 f).0 in clash (cc)
+        go (inl p) = let z = ((row_here t o inv n out d m b e E6 p).2 f (cc)).0 in cc
+        go (inr p) = let z = ((row_here t o inv n out d m b e E7 p).2 f).0 in cc
 
     -- the turn leaves the cell alone, and its worker is not about to place
     module _ (same : out.cell ≡ here) (aside : out.worker.phase ≡ Kind E8 → ⊥) where
@@ -63,15 +62,15 @@ module _ {I : Type 0} where
   module _ (t : Table I) (o : Orderly t) (inv : Promised t) (n : WorkerNo) where
     saw : (out : Turn I) (d : Turned prq_step t n out) → kind_side d.standing ≡ Dequeuing → out.cell ≡ cell t (worker t n).ticket → out.worker.phase ≡ Kind D4
         → (x : Value I) → (cell t (worker t n).ticket).value ≡ x → Saw (then_table t n out) n out.worker (cell t (worker t n).ticket) x
-    saw out d k same p Empty e = λ _. (ap occupied e, λ m b _ _ f. clash (cc))
+    saw out d k same p Empty e = λ _. (ap occupied e, λ m b _ _ f. cc)
     saw out d k same p (Token y) e = tt
     saw out d k same p (Item i) e = (
       (
-        λ _ m b _ _ f. clash (cc),
+        λ _ m b _ _ f. cc,
         λ f u.
             let z : (cell t (worker t n).ticket).pair.safe ≡ false = sym (ap (λ q. q.safe) f) ∙ u in
             subst (λ y. Clear (then_table t n out) y (cell t (worker t n).ticket).pair) (sym (ticket_kept t o inv n out d D4 p))
-            (clear_still t o inv n out d same (λ g. clash (cc)) k z (item_clear t o inv n out d z (ap occupied e))),
+            (clear_still t o inv n out d same (λ g. cc) k z (item_clear t o inv n out d z (ap occupied e))),
       ),
       λ _ _. e,
     )
@@ -80,10 +79,10 @@ module _ {I : Type 0} where
         → Promise (then_table t n out) n out.worker out.cell
     self_kept out d k z e3 a = omega arith
     self_kept out d k z e4_out a = tt
-    self_kept out d k z (e4_safe x y e) a = (a, y, λ f u. clash (cc))
+    self_kept out d k z (e4_safe x y e) a = (a, y, λ f u. cc)
     self_kept out d k z (e4_unsafe x y e) a =
-        (a, y, λ f u. quiet_still t o inv n _ d refl (λ g. clash (cc)) (x, unsafe_unlocked t o inv n _ d (sym (ap (λ q. q.safe) f) ∙ u)))
-    self_kept out d k z (e5_in x) a = (a.0, a.1, λ f u. quiet_still t o inv n _ d refl (λ g. clash (cc)) (a.2 f u))
+        (a, y, λ f u. quiet_still t o inv n _ d refl (λ g. cc) (x, unsafe_unlocked t o inv n _ d (sym (ap (λ q. q.safe) f) ∙ u)))
+    self_kept out d k z (e5_in x) a = (a.0, a.1, λ f u. quiet_still t o inv n _ d refl (λ g. cc) (a.2 f u))
     self_kept out d k z e5_out a = tt
     self_kept out d k z (e6_in x) a = (
       a.0,
@@ -91,7 +90,7 @@ module _ {I : Type 0} where
       λ f. (
         refl,
         each_worker_after prq_step t o n _ d (λ m v. v.phase ≡ Kind E8 → slot t.counters.cells v.ticket ≡ slot t.counters.cells (worker t n).ticket → ◌≡◌ {A = Value I} (Token n) (Token m) → ⊥)
-            (λ g _ _. clash (cc)) (λ m b h _ _ g. h (token_number n m g)),
+            (λ g _ _. cc) (λ m b h _ _ g. h (token_number n m g)),
       ),
     )
     self_kept out d k z e6_out a = tt
@@ -106,7 +105,7 @@ module _ {I : Type 0} where
     self_kept out d k z d4_stale a = tt
     self_kept out d k z (d4_late x y) a = tt
     self_kept out d k z (d4_empty v x y) a =
-        (a.0, let f = ap (λ q. q.epoch.0) x in omega arith, λ f. quiet_still t o inv n _ d refl (λ g. clash (cc)) (subst (Saw t n (worker t n) (cell t (worker t n).ticket)) v a.1 f))
+        (a.0, let f = ap (λ q. q.epoch.0) x in omega arith, λ f. quiet_still t o inv n _ d refl (λ g. cc) (subst (Saw t n (worker t n) (cell t (worker t n).ticket)) v a.1 f))
     self_kept out d k z (d4_token m v x y) a = (a.0, let f = ap (λ q. q.epoch.0) x in omega arith)
     self_kept out d k z (d4_exact i v x y) a = λ j h. ((subst (Saw t n (worker t n) (cell t (worker t n).ticket)) h a.1).1 x y, y)
     self_kept out d k z (d4_low i v x y) a =
@@ -114,12 +113,12 @@ module _ {I : Type 0} where
           a.0,
           let f = ap (λ q. q.epoch.0) x in omega arith,
           (
-            λ f. unlocked_still t o inv n _ d refl (λ g. clash (cc)) (b.0 f),
-            λ f u. clear_still t o inv n _ d refl (λ g. clash (cc)) (ap kind_side z) (sym (ap (λ q. q.safe) f) ∙ u) (b.1 f u),
+            λ f. unlocked_still t o inv n _ d refl (λ g. cc) (b.0 f),
+            λ f u. clear_still t o inv n _ d refl (λ g. cc) (ap kind_side z) (sym (ap (λ q. q.safe) f) ∙ u) (b.1 f u),
           ),
         )
     self_kept out d k z (d5 i v) a = tt
-    self_kept out d k z (d6_in x) a = (a.0, a.1, λ f. (refl, λ m b _ _ e. clash (cc)))
+    self_kept out d k z (d6_in x) a = (a.0, a.1, λ f. (refl, λ m b _ _ e. cc))
     self_kept out d k z d6_out a = tt
     self_kept out d k z (d7_in x) a = tt
     self_kept out d k z d7_out a = tt

@@ -14,7 +14,6 @@ use Rattle.ring.specs.declared.table.Side.TheVariants.{Dequeuing}
 use Rattle.ring.specs.declared.table.KindRow.TheVariants.{E3, E4, E5, E6, E7, E8, E11, D2, D3, D4, D5, D6, D7, D8}
 use Rattle.ring.specs.declared.table.Phase.TheVariants.{Idle, Engine, Kind}
 use Rattle.ring.specs.Table.{Table, cell, occupied}
-use Rattle.ring.proofs.Equals.{clash}
 use Rattle.ring.proofs.Orderly.{drawn}
 use Rattle.prq.specs.Barred.{Each, Unlocked, Quiet, Clear}
 use Rattle.prq.specs.Keys.{key, no_newer}
@@ -129,7 +128,7 @@ module _ {I : Type 0} where
           let q = p i v in
           elim b.epoch [
             | inl e ↦ (b.item i h q.0 q.1, ap (λ z. z.0) e ∙ (q.1 ∙ sym same_round))
-            | inr e ↦ let f = ap occupied q.0 in clash (cc)
+            | inr e ↦ let f = ap occupied q.0 in cc
           ]
 
     bears_row : (j : KindRow) → Bears t t' m w.ticket (Kind j) s s' → AtRow t m w s j → AtRow t' m w s' j

@@ -20,7 +20,7 @@ use Rattle.ring.specs.Fields.{with_phase, with_pair, with_value, finished, with_
 use Rattle.ring.specs.Laws.{Turned, EnqueueTurn, DequeueTurn, TurnOf, TouchesItsOwn}
 use Rattle.ring.specs.Phases.{kind_side}
 use Rattle.ring.specs.Table.{Table, worker, cell, occupied}
-use Rattle.ring.specs.Turns.{Turn, same_pair, still, is_token, goes, passes, places, takes}
+use Rattle.ring.specs.Turns.{Turn, same_pair, still, is_token, places, takes}
 use Rattle.ring.proofs.Pairs.{pair_from}
 use Rattle.ring.proofs.RowByRow.{GivesTurn, RowsTouchTheirOwn, kept_on, row_of_turn, rows_touch_their_own}
 use Rattle.ring.proofs.Values.{still_free, still_own}
@@ -67,6 +67,11 @@ module _ {I : Type 0} where
     d8_out : Did head n w s c D8 (on w s (Kind D2))
 
   module _ (head : ℕ) (n : WorkerNo) (w : Worker I) (s : Cell I) (c : Epoch) where
+    -- a row that tests its pair
+    by_pair : (k : KindRow) (x y : Result (Turn I) Refusal) → (w.pair ≡ s.pair → GivesTurn (Did head n w s c k) x) → GivesTurn (Did head n w s c k) y
+        → GivesTurn (Did head n w s c k) (cond (same_pair w.pair s.pair) x y)
+    by_pair k x y f g = cond_both (same_pair w.pair s.pair) x y (GivesTurn (Did head n w s c k)) (λ e. f (pair_from w.pair s.pair e)) (λ _. g)
+
     did : (k : KindRow) → GivesTurn (Did head n w s c k) (prq_rows head n w s c k)
     did E3 = e3
     did E4 =
@@ -77,15 +82,9 @@ module _ {I : Type 0} where
         cond_both w.pair.safe E6 E5 (λ k. Did head n w s c E4 (on (with_value w s.value) s (Kind k))) (e4_safe h.0 l) (e4_unsafe h.0 l))
     did E5 =
         cond_both (nat_le head w.ticket.0) (Kind E6) (Engine E9) (λ p. Did head n w s c E5 (on w s p)) (λ e. e5_in (leb-true head w.ticket.0 e)) (λ e. e5_out)
-    did E6 =
-        cond_both (still w.value s.value) (goes w (with_cell_value s (Token n)) (Kind E7)) (goes w s (Engine E9)) (GivesTurn (Did head n w s c E6))
-        (λ e. e6_in (still_free w.value s.value e)) (λ e. e6_out)
-    did E7 =
-        cond_both (same_pair w.pair s.pair) (goes w (with_cell_pair s (record { safe = true; epoch = c })) (Kind E8)) (goes w s (Kind E11)) (GivesTurn (Did head n w s c E7))
-        (λ e. e7_in (pair_from w.pair s.pair e)) (λ e. e7_out)
-    did E8 =
-        cond_both (still (Token n) s.value) (places w s w.item) (goes w s (Engine E9)) (GivesTurn (Did head n w s c E8)) (λ e. go (still_own n s.value e) w.item refl)
-        (λ e. e8_out)
+    did E6 = cond_both (still w.value s.value) _ _ (GivesTurn (Did head n w s c E6)) (λ e. e6_in (still_free w.value s.value e)) (λ e. e6_out)
+    did E7 = by_pair E7 _ _ e7_in e7_out
+    did E8 = cond_both (still (Token n) s.value) _ _ (GivesTurn (Did head n w s c E8)) (λ e. go (still_own n s.value e) w.item refl) (λ e. e8_out)
       where
         go : s.value ≡ Token n → (i : Option I) → w.item ≡ i → GivesTurn (Did head n w s c E8) (places w s i)
         go e None f = refl
@@ -95,13 +94,11 @@ module _ {I : Type 0} where
     did D2 = d2
     did D3 = d3
     did D4 =
-        cond_both (same_pair w.pair s.pair) (cond (nat_lt c.0 s.pair.epoch.0) (passes w s) (goes w s (Kind (by_value w.value (s.pair.epoch.0 == c.0)))))
-        (goes w s (Kind D2)) (GivesTurn (Did head n w s c D4))
-        (λ e.
-        let f = pair_from w.pair s.pair e in
-        cond_both (nat_lt c.0 s.pair.epoch.0) (passes w s) (goes w s (Kind (by_value w.value (s.pair.epoch.0 == c.0)))) (GivesTurn (Did head n w s c D4))
-        (λ g. d4_late f (ltb-true c.0 s.pair.epoch.0 g)) (λ g. go f (ltb-false c.0 s.pair.epoch.0 g) w.value refl))
-        (λ e. d4_stale)
+        by_pair D4 _ _
+        (λ f.
+        cond_both (nat_lt c.0 s.pair.epoch.0) _ _ (GivesTurn (Did head n w s c D4)) (λ g. d4_late f (ltb-true c.0 s.pair.epoch.0 g))
+        (λ g. go f (ltb-false c.0 s.pair.epoch.0 g) w.value refl))
+        d4_stale
       where
         go : w.pair ≡ s.pair → s.pair.epoch.0 ≤ c.0 → (v : Value I) → w.value ≡ v → Did head n w s c D4 (on w s (Kind (by_value v (s.pair.epoch.0 == c.0))))
         go e l Empty f = d4_empty f e l
@@ -116,14 +113,10 @@ module _ {I : Type 0} where
         go (Token m) e = refl
         go (Item i) e = d5 i e
     did D6 =
-        cond_both (is_token w.value && still w.value s.value) (goes w (with_cell_value s Empty) (Kind D7)) (goes w s (Kind D2)) (GivesTurn (Did head n w s c D6))
+        cond_both (is_token w.value && still w.value s.value) _ _ (GivesTurn (Did head n w s c D6))
         (λ e. d6_in (still_free w.value s.value (and_parts (is_token w.value) (still w.value s.value) e).1)) (λ e. d6_out)
-    did D7 =
-        cond_both (same_pair w.pair s.pair) (passes w (with_cell_pair s (record { safe = s.pair.safe; epoch = c }))) (goes w s (Kind D2)) (GivesTurn (Did head n w s c D7))
-        (λ e. d7_in (pair_from w.pair s.pair e)) (λ e. d7_out)
-    did D8 =
-        cond_both (same_pair w.pair s.pair) (passes w (with_cell_pair s (record { safe = false; epoch = s.pair.epoch }))) (goes w s (Kind D2)) (GivesTurn (Did head n w s c D8))
-        (λ e. d8_in (pair_from w.pair s.pair e)) (λ e. d8_out)
+    did D7 = by_pair D7 _ _ d7_in d7_out
+    did D8 = by_pair D8 _ _ d8_in d8_out
 
     -- a turn touches what is its own
     did_own : (k : KindRow) (out : Turn I) → Did head n w s c k out → TurnOf (kind_side k) w out

@@ -12,7 +12,7 @@ use Rattle.ring.specs.declared.table.Phase.TheVariants.{Idle, Engine, Kind}
 use Rattle.ring.specs.Table.{Counters, Table, ticket, worker}
 use Rattle.ring.specs.Phases.{kind_side, Outside}
 use Rattle.ring.specs.Calls.{is_worker}
-use Rattle.ring.proofs.Equals.{clash, same_number}
+use Rattle.ring.proofs.Equals.{same_number}
 use Rattle.ring.proofs.Orderly.{Orderly, drawn, worker_range}
 use Rattle.ring.proofs.Writes.{put, put_same, put_other, each_put}
 use Rattle.ring.proofs.Tickets.{Grows}
@@ -34,13 +34,13 @@ outside_idle (Kind r) k h = absurd h
 
 -- at work in a phase is a dequeue in one of the kind's phases
 pub at_work_is : (p : Phase) (l k : Ticket) → at_work_in p l ≡ Some k → (drawn p ≡ Dequeuing) × (l ≡ k)
-at_work_is Idle l k e = clash (cc)
-at_work_is (Engine x) l k e = clash (cc)
+at_work_is Idle l k e = cc
+at_work_is (Engine x) l k e = cc
 at_work_is (Kind r) l k e = go (kind_side r) e
   where
     go : (s : Side) → on_side s l ≡ Some k → (s ≡ Dequeuing) × (l ≡ k)
-    go Neither f = clash (cc)
-    go Enqueuing f = clash (cc)
+    go Neither f = cc
+    go Enqueuing f = cc
     go Dequeuing f = (refl, cc)
 
 module _ {I : Type 0} where
@@ -102,7 +102,7 @@ module _ {I : Type 0} where
                 | inr x ↦
                     elim (a.accounted k (omega (arith, grows.ring)) (omega arith)) [
                       | inl y ↦ inl (omega (arith, f k))
-                      | inr y ↦ inr (still_tended k (λ z. clash (cc)) y)
+                      | inr y ↦ inr (still_tended k (λ z. cc) y)
                     ]
               ];
           unended =
@@ -128,8 +128,8 @@ module _ {I : Type 0} where
                     ]
               ];
           unended =
-              λ m b. each_put t o c cs n there w (λ _ v. (k : Ticket) → working v ≡ Some k → ended' k.0 ≡ 0) (λ k x. clash (cc))
+              λ m b. each_put t o c cs n there w (λ _ v. (k : Ticket) → working v ≡ Some k → ended' k.0 ≡ 0) (λ k x. cc)
               (λ j d p k x. f k.0 (λ y. let u = at_work_is (worker t j).phase (worker t j).ticket k x in
-              o.apart j n d there p (u.0 ∙ sym v.0) (λ z. clash (cc)) (cc)) ∙ a.unended j d k x) m (was_there m b);
+              o.apart j n d there p (u.0 ∙ sym v.0) (λ z. cc) (cc)) ∙ a.unended j d k x) m (was_there m b);
           later = λ k x. f k (λ y. let r = o.dequeues n there v.0 in let q : (worker t n).ticket.0 ≡ l.0 = ap (λ z. z.0) v.1 in omega arith) ∙ a.later k (omega arith);
         }

@@ -9,7 +9,6 @@ use Rattle.ring.specs.Turns.{KindStep}
 use Rattle.ring.specs.Calls.{is_worker}
 use Rattle.ring.specs.Ledger.{Event, Ledger, State, blank, run}
 use Rattle.ring.specs.Books.{Sound, times, taking, passing, Attended}
-use Rattle.ring.proofs.Equals.{clash}
 use Rattle.ring.proofs.Orderly.{Orderly}
 use Rattle.ring.proofs.New.{new_worker, new_cell, orderly_new}
 use Rattle.ring.proofs.Events.{happened_places}
@@ -81,7 +80,7 @@ module _ {I : Type 0} where
                 placed_once = λ k. omega arith;
                 taken_once = λ k. omega arith;
                 taken_from_placed = tt;
-                held_is_placed = λ k i e. let q = new_cell {I = I} r w k h.0 in clash (cc);
+                held_is_placed = λ k i e. let q = new_cell {I = I} r w k h.0 in cc;
                 placed_is_held = λ k i e z. absurd e;
                 balance = omega (arith, occupied_none I r);
                 never_both = λ k. inl refl;

@@ -15,7 +15,6 @@ use Rattle.ring.specs.Calls.{Outcome, turned, row, called}
 use Rattle.ring.specs.Ledger.{Ledger, run}
 use Rattle.ring.specs.Books.{Attended, EmptyAttended, BooksClose}
 use Rattle.ring.specs.Laws.{Reached, Turned, EnqueueTurn, DequeueTurn, item_of, then_table, TurnOf, TouchesItsOwn, NeitherWay, PlacesFree, TakesHeld, LeavesItems, PassesBarred, StaysBarred}
-use Rattle.ring.proofs.Equals.{clash}
 use Rattle.ring.proofs.Moves.{Move, Moved, move_answer, move_outcome, move_table, gets_enqueue, gets_dequeue, draws_tail, finds_open, finds_closed, finds_room, finds_full, shuts, draws_head, finds_more, finds_empty}
 use Rattle.ring.proofs.Comes.{Comes, call_comes, refuses, moves, turns}
 use Rattle.ring.proofs.Orderly.{Orderly, drawn}
@@ -46,12 +45,12 @@ module _ {I : Type 0} where
 
   never_empty : (x : Side) (w : Worker I) (out : Turn I) (d : Ticket) → TurnOf x w out → out.answer ≡ Empty d → ⊥
   never_empty Neither w out d y e = y
-  never_empty Enqueuing w out d (EnqueueTurn.went_on a k r p q) e = clash (cc)
-  never_empty Enqueuing w out d (EnqueueTurn.gave_up a k p) e = clash (cc)
-  never_empty Enqueuing w out d (EnqueueTurn.did_place i it a f) e = clash (cc)
-  never_empty Dequeuing w out d (DequeueTurn.went_on a k r p q) e = clash (cc)
-  never_empty Dequeuing w out d (DequeueTurn.did_pass a k p) e = clash (cc)
-  never_empty Dequeuing w out d (DequeueTurn.did_take i a f) e = clash (cc)
+  never_empty Enqueuing w out d (EnqueueTurn.went_on a k r p q) e = cc
+  never_empty Enqueuing w out d (EnqueueTurn.gave_up a k p) e = cc
+  never_empty Enqueuing w out d (EnqueueTurn.did_place i it a f) e = cc
+  never_empty Dequeuing w out d (DequeueTurn.went_on a k r p q) e = cc
+  never_empty Dequeuing w out d (DequeueTurn.did_pass a k p) e = cc
+  never_empty Dequeuing w out d (DequeueTurn.did_take i a f) e = cc
 
 module _ {I : Type 0} (step : KindStep I) (held : Table I → Ticket → I → Type 0) (barred : Table I → Ticket → Type 0) (laws : Lawful step held barred) where
   orderly : (t : Table I) → Reached step t → Orderly t
@@ -80,7 +79,7 @@ module _ {I : Type 0} (step : KindStep I) (held : Table I → Ticket → I → T
     working_books : out.answer ≡ Working → Goes t.counters t.counters (worker t n) out.worker → working out.worker ≡ working (worker t n)
         → Books barred (answered t led n out out.answer)
     working_books a g e =
-        let l = leaves (λ k i x. clash (cc), λ k i x. clash (cc)) in
+        let l = leaves (λ k i x. cc, λ k i x. cc) in
         answers Working a (books_working barred t led (orderly t r) b n d.there out bars g l.0 l.1 e)
 
     turn_books : (x : Side) → side (worker t n).phase ≡ x → TurnOf x (worker t n) out → Books barred (answered t led n out out.answer)
@@ -100,7 +99,7 @@ module _ {I : Type 0} (step : KindStep I) (held : Table I → Ticket → I → T
         working_books a (turn_goes Dequeuing t.counters (worker t n) out (drawn_side Dequeuing e) (DequeueTurn.went_on a k row p q))
         (cc (working_inside out.worker row p, working_side Dequeuing e))
     turn_books Dequeuing e (DequeueTurn.did_pass a k p) =
-        let l = leaves (λ k i x. clash (cc), λ k i x. clash (cc)) in
+        let l = leaves (λ k i x. cc, λ k i x. cc) in
         let m = laws.passes_barred_lem t r n out (worker t n).ticket d a in
         answers (PassedOver (worker t n).ticket) a
         (books_passed barred t led (orderly t r) b n d.there out bars
@@ -128,7 +127,7 @@ module _ {I : Type 0} (step : KindStep I) (held : Table I → Ticket → I → T
   -- at an answer empty every ticket held has a dequeue at work on it
   empty_attended : (t : Table I) (led : Ledger I) → Reached step t → Books barred (booked t led) → (c : Call I) (x : Outcome I) → Comes step t c x
       → (d : Ticket) (k : Ticket) (i : I) → x.answer ≡ Ok (Empty d) → Held t k i → Attended led k
-  empty_attended t led r b c x (refuses y e) d k i a h = clash (cc)
+  empty_attended t led r b c x (refuses y e) d k i a h = cc
   empty_attended t led r b c x (moves n m w f e) d k i a h =
       let q : move_answer m (worker t n) ≡ Empty d = cc in
       let v : Moved t n finds_empty = subst (λ (y : Move I). Moved t n y) (empty_move m (worker t n) d q) w in

@@ -14,7 +14,6 @@ use Rattle.ring.specs.Calls.{is_worker, called}
 use Rattle.ring.specs.Ledger.{fed, run, taken}
 use Rattle.ring.specs.Books.{Happened, BooksFill}
 use Rattle.ring.specs.Laws.{alone, RoundTrip}
-use Rattle.ring.proofs.Equals.{clash}
 
 module _ {I : Type 0} (step : KindStep I) where
   -- one worker's steps, after earlier calls
@@ -30,7 +29,7 @@ module _ {I : Type 0} (step : KindStep I) where
     -- a step that answers taken, as the last of some steps alone, is noted
     taken_noted : (n : WorkerNo) (cs : List (Call I)) (j : ℕ) (k : Ticket) (i : I) → (alone step (run step r w cs).table n j).answer ≡ Ok (Taken k i)
         → Happened (taken k i) (run step r w (steps n j cs)).ledger.events
-    taken_noted n cs zero k i e = clash (cc)
+    taken_noted n cs zero k i e = cc
     taken_noted n cs (suc j) k i e =
         let s = run step r w (steps n j cs) in
         let q : (called step s.table (Step n)).answer ≡ Ok (Taken k i) = ap (λ t. (called step t (Step n)).answer) (steps_alone n cs j) ∙ e in

@@ -15,7 +15,7 @@ use Rattle.ring.specs.Calls.{is_worker}
 use Rattle.ring.specs.Ledger.{Event, placed, taken, passed_over}
 use Rattle.ring.specs.Books.{Happened, times, is_placing, is_taking, placing, taking, passing, FromPlaced}
 use Rattle.ring.specs.Laws.{item_of}
-use Rattle.ring.proofs.Equals.{clash, same_ticket}
+use Rattle.ring.proofs.Equals.{same_ticket}
 use Rattle.ring.proofs.Rounds.{same_place}
 use Rattle.ring.proofs.Values.{item_back, occupied_by_item}
 use Rattle.ring.proofs.Orderly.{Orderly, drawn}
@@ -95,10 +95,10 @@ module _ {I : Type 0} where
         (λ k e _ d. f (worker t k).ticket.0 ∙ a.unplaced k e d) m (rw grows.crew at b)
       where
         go : Goes t.counters c (worker t n) w → drawn w.phase ≡ Enqueuing → times (placing w.ticket.0) es ≡ 0
-        go (rests e) d = clash (cc)
+        go (rests e) d = cc
         go (keeps e k) d = rw k (a.unplaced n there (sym e ∙ d))
         go (takes_tail e k q) d = a.none_later w.ticket.0 (omega arith)
-        go (takes_head e k q) d = clash (cc)
+        go (takes_head e k q) d = cc
 
     -- nothing is placed, taken or passed over
     pub items_on : (c : Counters) (cs : List (Cell I)) → Grows t.counters c → Goes t.counters c (worker t n) w
@@ -135,9 +135,9 @@ module _ {I : Type 0} where
           none_later = λ k h. omega (arith, one_other l.0 k (λ e. omega arith), a.none_later k h);
           unplaced =
               each_put t o t.counters (changed t l x n w).cells n there w (λ _ v. drawn v.phase ≡ Enqueuing → times (placing v.ticket.0) (placed l i ∷ es) ≡ 0)
-              (λ e. clash (cc))
+              (λ e. cc)
               (λ j g h e.
-              let away : l.0 ≡ (worker t j).ticket.0 → ⊥ = λ z. o.apart j n g there h (e ∙ sym d) (λ y. clash (cc)) (sym z ∙ sym number) in
+              let away : l.0 ≡ (worker t j).ticket.0 → ⊥ = λ z. o.apart j n g there h (e ∙ sym d) (λ y. cc) (sym z ∙ sym number) in
               omega (arith, one_other l.0 (worker t j).ticket.0 away, a.unplaced j g e));
           placed_once = λ k. once_more l.0 k _ (λ e. rw e at new) (a.placed_once k);
           taken_once = λ k. omega (arith, a.taken_once k);
@@ -155,7 +155,7 @@ module _ {I : Type 0} where
               λ k j p z.
               elim p [
                 | inl e ↦ let same : l ≡ k = cc in let item : i ≡ j = cc in subst₂ (Held (changed t l x n w)) same item held
-                | inr q ↦ elim (held_old t o l x n w k j (a.placed_is_held k j q (omega arith))) [ inl g ↦ clash (cc (g.1.0, free)) | inr g ↦ g ]
+                | inr q ↦ elim (held_old t o l x n w k j (a.placed_is_held k j q (omega arith))) [ inl g ↦ cc (g.1.0, free) | inr g ↦ g ]
               ];
           balance =
               let p = occupied_set t.cells (slot t.counters.cells l) x (slot_in t o l) in
@@ -181,7 +181,7 @@ module _ {I : Type 0} where
           held_is_placed =
               λ k j h.
               elim (held_new t o l x n w k j h) [
-                | inl g ↦ clash (cc (g.1.0, empty))
+                | inl g ↦ cc (g.1.0, empty)
                 | inr g ↦
                     let u = a.held_is_placed k j g.1 in
                     (inr u.0, omega (arith, one_other l.0 k.0 (λ e. g.0 (ap (λ z. z % t.counters.cells) (sym e)))))
@@ -189,7 +189,7 @@ module _ {I : Type 0} where
           placed_is_held =
               λ k j p z.
               elim p [
-                | inl e ↦ clash (cc)
+                | inl e ↦ cc
                 | inr q ↦ elim (held_old t o l x n w k j (a.placed_is_held k j q (omega arith))) [
                   | inl g ↦
                       let same : l ≡ k = same_place t.counters.cells l k (sym g.0) (cc (g.1.1, held.1)) in
@@ -224,7 +224,7 @@ module _ {I : Type 0} where
         taken_once = λ k. omega (arith, a.taken_once k);
         taken_from_placed = a.taken_from_placed;
         held_is_placed = λ k j h. let u = a.held_is_placed k j h in (inr u.0, omega arith);
-        placed_is_held = λ k j p z. elim p [ inl e ↦ clash (cc) | inr q ↦ a.placed_is_held k j q (omega arith) ];
+        placed_is_held = λ k j p z. elim p [ inl e ↦ cc | inr q ↦ a.placed_is_held k j q (omega arith) ];
         balance = omega (arith, a.balance);
         never_both = λ k. ⊎_swap (one_sort l.0 k _ _ (λ e. rw e at new) (⊎_swap (a.never_both k)));
         passed_barred =

@@ -6,7 +6,6 @@ use Rattle.tickets.specs.declared.Ticket.{Ticket}
 use Rattle.tickets.specs.declared.WorkerNo.{WorkerNo}
 use Rattle.ring.specs.Table.{InRange, fresh_cell, idle_worker, laid_out, worker, cell}
 use Rattle.ring.specs.Calls.{is_worker}
-use Rattle.ring.proofs.Equals.{clash}
 use Rattle.ring.proofs.Orderly.{Orderly, worker_range}
 
 module _ {I : Type 0} where
@@ -26,8 +25,8 @@ module _ {I : Type 0} where
         head_to = omega arith;
         tail_from = omega arith;
         tail_to = omega arith;
-        carries = λ n b e. let i = new_worker r w n b in clash (cc);
-        enqueues = λ n b e. let i = new_worker r w n b in clash (cc);
-        dequeues = λ n b e. let i = new_worker r w n b in clash (cc);
+        carries = λ n b e. let i = new_worker r w n b in cc;
+        enqueues = λ n b e. let i = new_worker r w n b in cc;
+        dequeues = λ n b e. let i = new_worker r w n b in cc;
         apart = λ n m b a h d f e. let i = new_worker r w n b in f (cc);
       }

@@ -19,7 +19,6 @@ use Rattle.ring.specs.Calls.{Outcome, is_worker, called}
 use Rattle.ring.specs.Ledger.{run}
 use Rattle.ring.specs.Laws.{Reached, Turned, Kept, EnqueueTurn, DequeueTurn, item_of, TurnOf, TouchesItsOwn, PlacesFree, TakesHeld, LeavesItems, then_table}
 use Rattle.ring.specs.Origin.{Assigns, ItemsAssigned}
-use Rattle.ring.proofs.Equals.{clash}
 use Rattle.ring.proofs.Values.{item_back}
 use Rattle.ring.proofs.Moves.{Move, move_from, Found, move_counters, move_worker, move_answer, move_call, gets_enqueue, gets_dequeue, draws_tail, finds_open, finds_closed, finds_room, finds_full, shuts, draws_head, finds_more, finds_empty}
 use Rattle.ring.proofs.Comes.{Comes, call_comes, refuses, moves, turns}
@@ -51,24 +50,24 @@ module _ {I : Type 0} where
     all_new : (r w : ℕ) → InRange r w → AllOf P (laid_out r w)
     all_new r w h =
         record {
-          records = λ n b i e. let q = new_worker {I = I} r w n b in clash (cc);
-          cells = λ k i e. let q = new_cell {I = I} r w k h.0 in clash (cc);
+          records = λ n b i e. let q = new_worker {I = I} r w n b in cc;
+          cells = λ k i e. let q = new_cell {I = I} r w k h.0 in cc;
         }
 
     -- the record after a move of the engine
     move_record : (m : Move I) (n : WorkerNo) (c : Counters) (w : Worker I) → ((i : I) → move_call m n ≡ AssignEnqueue n i → P i) → ((i : I) → w.item ≡ Some i → P i)
         → (i : I) → (move_worker m c w).item ≡ Some i → P i
     move_record (gets_enqueue j) n c w new old i e = new i (cc)
-    move_record gets_dequeue n c w new old i e = clash (cc)
+    move_record gets_dequeue n c w new old i e = cc
     move_record draws_tail n c w new old i e = old i e
     move_record finds_open n c w new old i e = old i e
-    move_record (finds_closed j) n c w new old i e = clash (cc)
+    move_record (finds_closed j) n c w new old i e = cc
     move_record finds_room n c w new old i e = old i e
     move_record finds_full n c w new old i e = old i e
-    move_record (shuts j) n c w new old i e = clash (cc)
+    move_record (shuts j) n c w new old i e = cc
     move_record draws_head n c w new old i e = old i e
     move_record finds_more n c w new old i e = old i e
-    move_record finds_empty n c w new old i e = clash (cc)
+    move_record finds_empty n c w new old i e = cc
 
     carries_none : {a : Answer I} → ((i : I) → answer_item a ≡ Some i → ⊥) → ((k : Ticket) → answer_ticket a ≡ Some k → ⊥) → Carries P a
     carries_none f g = record { item = λ i e. absurd (f i e); ticket = λ k e. absurd (g k e) }
@@ -79,20 +78,20 @@ module _ {I : Type 0} where
 
     move_carries : (m : Move I) (c : Counters) (w : Worker I) → w.phase ≡ move_from m → Found m c w → ((i : I) → w.item ≡ Some i → P i)
         → ((drawn w.phase ≡ Neither → ⊥) → w.ticket.0 < counter_limit) → Carries P (move_answer m w)
-    move_carries (gets_enqueue j) c w p f old low = carries_none (λ i e. clash (cc)) (λ k e. clash (cc))
-    move_carries gets_dequeue c w p f old low = carries_none (λ i e. clash (cc)) (λ k e. clash (cc))
-    move_carries draws_tail c w p f old low = carries_none (λ i e. clash (cc)) (λ k e. clash (cc))
-    move_carries finds_open c w p f old low = carries_none (λ i e. clash (cc)) (λ k e. clash (cc))
+    move_carries (gets_enqueue j) c w p f old low = carries_none (λ i e. cc) (λ k e. cc)
+    move_carries gets_dequeue c w p f old low = carries_none (λ i e. cc) (λ k e. cc)
+    move_carries draws_tail c w p f old low = carries_none (λ i e. cc) (λ k e. cc)
+    move_carries finds_open c w p f old low = carries_none (λ i e. cc) (λ k e. cc)
     move_carries (finds_closed j) c w p f old low =
-        record { item = λ i e. old i (cc f.1); ticket = carried w.ticket (low (λ z. let d = ap drawn p in clash (cc))) }
-    move_carries finds_room c w p f old low = carries_none (λ i e. clash (cc)) (λ k e. clash (cc))
-    move_carries finds_full c w p f old low = carries_none (λ i e. clash (cc)) (λ k e. clash (cc))
+        record { item = λ i e. old i (cc f.1); ticket = carried w.ticket (low (λ z. let d = ap drawn p in cc)) }
+    move_carries finds_room c w p f old low = carries_none (λ i e. cc) (λ k e. cc)
+    move_carries finds_full c w p f old low = carries_none (λ i e. cc) (λ k e. cc)
     move_carries (shuts j) c w p f old low =
-        record { item = λ i e. old i (cc (f)); ticket = carried w.ticket (low (λ z. let d = ap drawn p in clash (cc))) }
-    move_carries draws_head c w p f old low = carries_none (λ i e. clash (cc)) (λ k e. clash (cc))
-    move_carries finds_more c w p f old low = carries_none (λ i e. clash (cc)) (λ k e. clash (cc))
+        record { item = λ i e. old i (cc (f)); ticket = carried w.ticket (low (λ z. let d = ap drawn p in cc)) }
+    move_carries draws_head c w p f old low = carries_none (λ i e. cc) (λ k e. cc)
+    move_carries finds_more c w p f old low = carries_none (λ i e. cc) (λ k e. cc)
     move_carries finds_empty c w p f old low =
-        record { item = λ i e. clash (cc); ticket = carried w.ticket (low (λ z. let d = ap drawn p in clash (cc))) }
+        record { item = λ i e. cc; ticket = carried w.ticket (low (λ z. let d = ap drawn p in cc)) }
 
   -- what a turn of a ring kind leaves
   pub record Leaves (P : I → Type 0) (out : Turn I) : Type 0 where
@@ -121,8 +120,8 @@ module _ {I : Type 0} (step : KindStep I) (held : Table I → Ticket → I → T
       working a k =
           record {
             worker = worker_keeps k.item;
-            cell = cell_keeps Working a (λ _ _ x. clash (cc)) (λ _ _ x. clash (cc));
-            answer = answers Working a (carries_none P (λ i e. clash (cc)) (λ l e. clash (cc)));
+            cell = cell_keeps Working a (λ _ _ x. cc) (λ _ _ x. cc);
+            answer = answers Working a (carries_none P (λ i e. cc) (λ l e. cc));
           }
 
       turn_leaves : (x : Side) → TurnOf x (worker t n) out → Leaves P out
@@ -135,7 +134,7 @@ module _ {I : Type 0} (step : KindStep I) (held : Table I → Ticket → I → T
           let here = ((meaning (then_table t n out) (worker t n).ticket i).0 (places t r n out (worker t n).ticket i d a).2).0 in
           let is = cell_here t o (worker t n).ticket out.cell n out.worker (worker t n).ticket refl in
           record {
-            worker = λ j e. clash (cc);
+            worker = λ j e. cc;
             cell = λ j e. let q : i ≡ j = cc in subst P q own;
             answer = answers (Placed (worker t n).ticket i) a (record { item = λ j e. let q : i ≡ j = cc in subst P q own; ticket = carried P (worker t n).ticket low });
           }
@@ -143,22 +142,22 @@ module _ {I : Type 0} (step : KindStep I) (held : Table I → Ticket → I → T
       turn_leaves Dequeuing (DequeueTurn.did_pass a k p) =
           record {
             worker = worker_keeps k.item;
-            cell = cell_keeps (PassedOver (worker t n).ticket) a (λ _ _ x. clash (cc)) (λ _ _ x. clash (cc));
-            answer = answers (PassedOver (worker t n).ticket) a (record { item = λ j e. clash (cc); ticket = carried P (worker t n).ticket low });
+            cell = cell_keeps (PassedOver (worker t n).ticket) a (λ _ _ x. cc) (λ _ _ x. cc);
+            answer = answers (PassedOver (worker t n).ticket) a (record { item = λ j e. cc; ticket = carried P (worker t n).ticket low });
           }
       turn_leaves Dequeuing (DequeueTurn.did_take i a f) =
           let l = takes t r n out (worker t n).ticket i d a in
           let own = all.cells (worker t n).ticket i ((meaning t (worker t n).ticket i).0 l.0).0 in
           record {
-            worker = λ j e. clash (cc);
-            cell = λ j e. let v = l.1 in clash (cc);
+            worker = λ j e. cc;
+            cell = λ j e. let v = l.1 in cc;
             answer = answers (Taken (worker t n).ticket i) a (record { item = λ j e. let q : i ≡ j = cc in subst P q own; ticket = carried P (worker t n).ticket low });
           }
 
     -- after a call that assigns items of P alone, the table has items of P alone, and so has the answer
     call_leaves : (c : Call I) → ((n : WorkerNo) (i : I) → c ≡ AssignEnqueue n i → P i) → (x : Outcome I) → Comes step t c x
         → AllOf P x.table × ((a : Answer I) → x.answer ≡ Ok a → Carries P a)
-    call_leaves c given x (refuses y e) = (subst (λ (z : Outcome I). AllOf P z.table) (sym e) all, λ a f. clash (cc))
+    call_leaves c given x (refuses y e) = (subst (λ (z : Outcome I). AllOf P z.table) (sym e) all, λ a f. cc)
     call_leaves c given x (moves n m d f e) =
         let o = reached_orderly step touches t r in
         let counters = move_counters m t.counters in

@@ -18,7 +18,6 @@ use Rattle.ring.specs.Phases.{kind_side, side}
 use Rattle.ring.specs.Fields.{with_phase}
 use Rattle.ring.specs.Turns.{Turn, KindRows, in_kind, step_of}
 use Rattle.ring.specs.Laws.{Turned, Kept, EnqueueTurn, DequeueTurn, TurnOf, TouchesItsOwn}
-use Rattle.ring.proofs.Equals.{clash}
 
 module _ {I : Type 0} where
   -- a turn with P, or refusal 13
@@ -39,10 +38,10 @@ module _ {I : Type 0} where
   kept_ticket Neither w out j a e = absurd a
   kept_ticket Enqueuing w out j (EnqueueTurn.went_on a k r p q) e = k.ticket
   kept_ticket Enqueuing w out j (EnqueueTurn.gave_up a k p) e = k.ticket
-  kept_ticket Enqueuing w out j (EnqueueTurn.did_place i it a f) e = clash (cc)
+  kept_ticket Enqueuing w out j (EnqueueTurn.did_place i it a f) e = cc
   kept_ticket Dequeuing w out j (DequeueTurn.went_on a k r p q) e = k.ticket
   kept_ticket Dequeuing w out j (DequeueTurn.did_pass a k p) e = k.ticket
-  kept_ticket Dequeuing w out j (DequeueTurn.did_take i a f) e = clash (cc)
+  kept_ticket Dequeuing w out j (DequeueTurn.did_take i a f) e = cc
 
   module _ (rows : KindRows I) where
     -- what the step gave is what the row of the phase gave
@@ -50,7 +49,7 @@ module _ {I : Type 0} where
         → rows head n w s (round r w.ticket) k ≡ Ok out
     row_gave r head n w s k out p e = elim (cases_Bool (ltb w.ticket.0 counter_limit)) [
       | inl b ↦ sym (ap (in_kind (rows head n w s (round r w.ticket))) p) ∙ (sym (cond-true (ltb w.ticket.0 counter_limit) _ _ b) ∙ e)
-      | inr b ↦ let x = cond-false (ltb w.ticket.0 counter_limit) (in_kind (rows head n w s (round r w.ticket)) w.phase) (Err Misfit) b in clash (cc)
+      | inr b ↦ let x = cond-false (ltb w.ticket.0 counter_limit) (in_kind (rows head n w s (round r w.ticket)) w.phase) (Err Misfit) b in cc
     ]
 
     pub row_of_turn : (t : Table I) (n : WorkerNo) (out : Turn I) (d : Turned (step_of rows) t n out)

@@ -11,7 +11,6 @@ use Rattle.ring.specs.Phases.{side}
 use Rattle.ring.specs.Turns.{Turn, KindStep}
 use Rattle.ring.specs.Calls.{is_worker}
 use Rattle.ring.specs.Laws.{Turned, EnqueueTurn, DequeueTurn, then_table, TurnOf, TouchesItsOwn}
-use Rattle.ring.proofs.Equals.{clash}
 use Rattle.ring.proofs.Moves.{Move, Moved, move_from, Found, move_counters, move_worker, move_table, gets_enqueue, gets_dequeue, draws_tail, finds_open, finds_closed, finds_room, finds_full, shuts, draws_head, finds_more, finds_empty}
 use Rattle.ring.proofs.Orderly.{Orderly, drawn, Apart}
 use Rattle.ring.proofs.Writes.{put, each_put}
@@ -45,18 +44,18 @@ module _ {I : Type 0} where
     set_enqueues d = go goes
       where
         go : Goes t.counters c (worker t n) w → (t.counters.cells ≤ w.ticket.0) × (w.ticket.0 < c.tail)
-        go (rests e) = clash (cc)
+        go (rests e) = cc
         go (keeps e k) = let q = o.enqueues n there (cc) in omega arith
         go (takes_tail e k l) = omega arith
-        go (takes_head e k l) = clash (cc)
+        go (takes_head e k l) = cc
 
     set_dequeues : drawn w.phase ≡ Dequeuing → (t.counters.cells ≤ w.ticket.0) × (w.ticket.0 < c.head)
     set_dequeues d = go goes
       where
         go : Goes t.counters c (worker t n) w → (t.counters.cells ≤ w.ticket.0) × (w.ticket.0 < c.head)
-        go (rests e) = clash (cc)
+        go (rests e) = cc
         go (keeps e k) = let q = o.dequeues n there (cc) in omega arith
-        go (takes_tail e k l) = clash (cc)
+        go (takes_tail e k l) = cc
         go (takes_head e k l) = omega arith
 
     set_apart : (m : WorkerNo) → is_worker t m ≡ true → (m.0 ≡ n.0 → ⊥) → Apart (worker t m) w
@@ -126,16 +125,16 @@ module _ {I : Type 0} where
   move_item : (m : Move I) (c : Counters) (w : Worker I) → w.phase ≡ move_from m → (side w.phase ≡ Enqueuing → (i : I) × (w.item ≡ Some i))
       → side (move_worker m c w).phase ≡ Enqueuing → (i : I) × ((move_worker m c w).item ≡ Some i)
   move_item (gets_enqueue i) c w p k s = (i, refl)
-  move_item gets_dequeue c w p k s = clash (cc)
+  move_item gets_dequeue c w p k s = cc
   move_item draws_tail c w p k s = k (ap side p)
   move_item finds_open c w p k s = k (ap side p)
-  move_item (finds_closed i) c w p k s = clash (cc)
+  move_item (finds_closed i) c w p k s = cc
   move_item finds_room c w p k s = k (ap side p)
   move_item finds_full c w p k s = k (ap side p)
-  move_item (shuts i) c w p k s = clash (cc)
-  move_item draws_head c w p k s = clash (cc)
-  move_item finds_more c w p k s = clash (cc)
-  move_item finds_empty c w p k s = clash (cc)
+  move_item (shuts i) c w p k s = cc
+  move_item draws_head c w p k s = cc
+  move_item finds_more c w p k s = cc
+  move_item finds_empty c w p k s = cc
 
   pub orderly_move : (t : Table I) → Orderly t → (n : WorkerNo) (m : Move I) → Moved t n m → Orderly (move_table t n m)
   orderly_move t o n m d =
@@ -157,10 +156,10 @@ module _ {I : Type 0} where
   turn_item Neither w out c x e = absurd x
   turn_item Enqueuing w out c (EnqueueTurn.went_on a k r p q) e = let j = c refl in (j.0, cc)
   turn_item Enqueuing w out c (EnqueueTurn.gave_up a k p) e = let j = c refl in (j.0, cc)
-  turn_item Enqueuing w out c (EnqueueTurn.did_place i it a f) e = clash (cc)
-  turn_item Dequeuing w out c (DequeueTurn.went_on a k r p q) e = clash (cc)
-  turn_item Dequeuing w out c (DequeueTurn.did_pass a k p) e = clash (cc)
-  turn_item Dequeuing w out c (DequeueTurn.did_take i a f) e = clash (cc)
+  turn_item Enqueuing w out c (EnqueueTurn.did_place i it a f) e = cc
+  turn_item Dequeuing w out c (DequeueTurn.went_on a k r p q) e = cc
+  turn_item Dequeuing w out c (DequeueTurn.did_pass a k p) e = cc
+  turn_item Dequeuing w out c (DequeueTurn.did_take i a f) e = cc
 
   pub orderly_turn : (step : KindStep I) (t : Table I) → Orderly t → TouchesItsOwn step t → (n : WorkerNo) (out : Turn I) → Turned step t n out → Orderly (then_table t n out)
   orderly_turn step t o law n out d =

@@ -7,7 +7,7 @@ use Rattle.ring.specs.declared.table.Value.TheVariants.{Empty, Token, Item}
 use Rattle.ring.specs.Table.{occupied}
 use Rattle.ring.specs.Turns.{still, is_empty}
 use Rattle.ring.specs.Laws.{item_of}
-use Rattle.ring.proofs.Equals.{clash, same_number}
+use Rattle.ring.proofs.Equals.{same_number}
 
 module _ {I : Type 0} where
   pub empty_from : (v : Value I) → is_empty v ≡ true → v ≡ Empty
@@ -23,12 +23,12 @@ module _ {I : Type 0} where
   still_free (Token n) Empty e = refl
   still_free (Token n) (Token m) e = refl
   still_free (Token n) (Item j) e = cc
-  still_free (Item i) u e = clash (cc)
+  still_free (Item i) u e = cc
 
   pub still_own : (n : WorkerNo) (u : Value I) → still (Token n) u ≡ true → u ≡ Token n
-  still_own n Empty e = clash (cc)
+  still_own n Empty e = cc
   still_own n (Token m) e = ap Token (sym (same_number (eqb-true n.0 m.0 e)))
-  still_own n (Item j) e = clash (cc)
+  still_own n (Item j) e = cc
 
   pub item_back : (v : Value I) (i : I) → item_of v ≡ Some i → v ≡ Item i
   item_back Empty i e = cc
@@ -38,7 +38,7 @@ module _ {I : Type 0} where
   pub free_item : (v : Value I) → occupied v ≡ false → item_of v ≡ None
   free_item Empty e = refl
   free_item (Token m) e = refl
-  free_item (Item i) e = clash (cc)
+  free_item (Item i) e = cc
 
   pub occupied_by_item : (u v : Value I) → item_of u ≡ item_of v → occupied u ≡ occupied v
   occupied_by_item Empty Empty e = refl

@@ -11,7 +11,6 @@ use Rattle.ring.specs.Turns.{KindStep, step_of}
 use Rattle.ring.specs.Table.{ticket}
 use Rattle.ring.specs.Ledger.{run, placed, taken, passed_over}
 use Rattle.ring.specs.Books.{BooksClose, FromPlaced, times, placing, passing}
-use Rattle.ring.proofs.Equals.{clash}
 use Rattle.runs.specs.Slips.{token_left, read_once, head_first, difference, slips, EachBreaks}
 
 abbrev w1 : WorkerNo
@@ -43,7 +42,7 @@ module _ {I : Type 0} where
 
   -- an item that was placed under ticket 3 is not one that was placed under ticket 1
   stray : (i : I) → FromPlaced (taken (ticket 1) i ∷ placed (ticket 3) i ∷ passed_over (ticket 2) ∷ []) → ⊥
-  stray i h = elim h.0 [ inl e ↦ let k : ticket 3 ≡ ticket 1 = cc in let q : ◌≡◌ {A = ℕ} 3 1 = ap (λ x. x.0) k in omega arith | inr (inl e) ↦ clash (cc) | inr (inr e) ↦ e ]
+  stray i h = elim h.0 [ inl e ↦ let k : ticket 3 ≡ ticket 1 = cc in let q : ◌≡◌ {A = ℕ} 3 1 = ap (λ x. x.0) k in omega arith | inr (inl e) ↦ cc | inr (inr e) ↦ e ]
 
   module _ (i : I) where
     -- an enqueue that only has to place its item is passed over by the dequeue of its ticket

@@ -68,7 +68,7 @@ pub fn read_head<I: Copy>(worker: &mut Worker<I>, head: u64) -> Result<Answer<I>
     ensures answer { result ≡ Ok Working }
     ensures record { worker.new ≡ with_phase worker.old (if nat_le head worker.old.ticket.0 then Kind E6 else Engine E9) }
 {
-    if head <= worker.ticket.0 {
+    if Ticket(head) <= worker.ticket {
         return go_on(worker, Phase::Kind(KindRow::E6));
     }
     go_on(worker, Phase::Engine(EngineRow::E9))
