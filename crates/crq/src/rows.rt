@@ -40,15 +40,13 @@ fn e6<I: Copy>(
     if !worker.pair.is_still(cell.pair) || !cell.value.is_empty() {
         return go_on(worker, Phase::Engine(EngineRow::E9));
     }
-    if worker.item.is_none() {
-        return Err(Refusal::Misfit);
-    }
+    let placed = place(worker, cell)?;
     let pair = Pair {
         safe: true,
         epoch: found.round,
     };
     swap_pair(cell, pair);
-    place(worker, cell)
+    Ok(placed)
 }
 
 // D3: the value is read, and the way on decided.

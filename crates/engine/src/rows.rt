@@ -2,11 +2,11 @@
 ghost use Rattle.std.specs.Prelude.{◌≡◌, ℕ, ◌+◌, ◌≤◌, ◌==◌, if◌then◌else◌, Ok, Err};
 ghost use Rattle.std.specs.Option.{ok_or};
 ghost use Rattle.ring.specs.declared.answers.Refusal.TheVariants.{Misfit, Spent};
-ghost use Rattle.ring.specs.Fields.{with_phase, with_ticket, finished as ended};
+ghost use Rattle.ring.specs.Fields.{with_phase, with_ticket, finished};
 ghost use Rattle.ring.specs.Phases.{engine_side};
 ghost use Rattle.ring.specs.Rows.{draw_tail, read_closed, read_head, set_closed, draw_head, read_tail, engine_row};
 ghost use Rattle.ring.specs.Calls.{carries, fitting};
-ghost use Rattle.ring.specs.Table.{counter_limit, ticket as with_number};
+ghost use Rattle.ring.specs.Table.{counter_limit, ticket};
 ghost use Rattle.engine.specs.Engine.{Does};
 
 use crate::fits::fits;
@@ -19,7 +19,7 @@ use tickets::*;
 fn draw<I: Copy>(counter: u64, worker: &mut Worker<I>, phase: Phase) -> Result<u64, Refusal>
     requires { counter ≤ 1000000000000 }
     ensures counter { result ≡ if counter == counter_limit then Err Spent else Ok (counter + 1) }
-    ensures record { worker.new ≡ if counter == counter_limit then worker.old else with_phase (with_ticket worker.old (with_number counter)) phase }
+    ensures record { worker.new ≡ if counter == counter_limit then worker.old else with_phase (with_ticket worker.old (ticket counter)) phase }
 {
     if counter == COUNTER_LIMIT {
         return Err(Refusal::Spent);
@@ -35,7 +35,7 @@ fn draw<I: Copy>(counter: u64, worker: &mut Worker<I>, phase: Phase) -> Result<u
 // The worker gives up: its operation ends, and its item comes back.
 fn hand_back<I: Copy>(worker: &mut Worker<I>) -> Result<I, Refusal>
     ensures item { result ≡ ok_or worker.old.item Misfit }
-    ensures record { worker.new ≡ if carries worker.old.item then ended worker.old else worker.old }
+    ensures record { worker.new ≡ if carries worker.old.item then finished worker.old else worker.old }
 {
     let item = worker.item.ok_or(Refusal::Misfit)?;
     *worker = worker.finished();
