@@ -120,6 +120,15 @@ module _ {I : Type 0} where
         subst (λ (u : Pair). (m : WorkerNo) → is_worker t m ≡ true → AboutToPlace t.counters.cells k u (worker (then_table t n out) m) → ⊥) (sym e)
         (each_put t o t.counters (then_table t n out).cells n there out.worker (λ _ v. AboutToPlace t.counters.cells k q v → ⊥) self (λ m b _. others m b))
 
+    -- the cell of the ticket k is as it was
+    shut_kept : (out : Turn I) (k : Ticket) → cell (then_table t n out) k ≡ cell t k → Shut t k → (AboutToPlace t.counters.cells k (cell t k).pair out.worker → ⊥) → Shut (then_table t n out) k
+    shut_kept out k f b self =
+        record {
+          passed = b.passed;
+          unsafe = ap (λ u. u.pair.safe) f ∙ b.unsafe;
+          guarded = elim b.guarded [ inl z ↦ inl (ap (λ u. occupied u.value) f ∙ z) | inr z ↦ inr (clear_after out k (cell t k).pair (ap (λ u. u.pair) f) self z) ];
+        }
+
     -- where the ticket k has the worker's cell
     module _ (k : Ticket) (same : slot t.counters.cells k ≡ slot t.counters.cells (worker t n).ticket) where
       was : cell t k ≡ cell t (worker t n).ticket
@@ -130,13 +139,7 @@ module _ {I : Type 0} where
 
       -- the cell is as it was
       shut_still : (out : Turn I) → out.cell ≡ cell t (worker t n).ticket → Shut t k → (AboutToPlace t.counters.cells k (cell t k).pair out.worker → ⊥) → Shut (then_table t n out) k
-      shut_still out e b self =
-          let f : cell (then_table t n out) k ≡ cell t k = now out ∙ (e ∙ sym was) in
-          record {
-            passed = b.passed;
-            unsafe = ap (λ u. u.pair.safe) f ∙ b.unsafe;
-            guarded = elim b.guarded [ inl z ↦ inl (ap (λ u. occupied u.value) f ∙ z) | inr z ↦ inr (clear_after out k (cell t k).pair (ap (λ u. u.pair) f) self z) ];
-          }
+      shut_still out e = shut_kept out k (now out ∙ (e ∙ sym was))
 
       -- the epoch grows and the cell's safety stays: who is about to place has read an earlier epoch
       shut_raised : (out : Turn I) → (cell t (worker t n).ticket).pair.epoch.0 < out.cell.pair.epoch.0 → out.cell.pair.safe ≡ (cell t (worker t n).ticket).pair.safe
@@ -210,17 +213,9 @@ module _ {I : Type 0} where
         go (inl e) (inr z) = shut_stays k e x out h a z
         go (inr e) (inl z) = inl (omega (arith, ap (λ u. u.pair.epoch.0) (cell_else t o (worker t n).ticket out.cell n out.worker k e)))
         go (inr e) (inr z) =
-            let f : cell (then_table t n out) k ≡ cell t k = cell_else t o (worker t n).ticket out.cell n out.worker k e in
             inr (
-            record {
-              passed = z.passed;
-              unsafe = ap (λ u. u.pair.safe) f ∙ z.unsafe;
-              guarded =
-                  elim z.guarded [
-                    | inl y ↦ inl (ap (λ u. occupied u.value) f ∙ y)
-                    | inr y ↦ inr (clear_after out k (cell t k).pair (ap (λ u. u.pair) f) (λ c. e (sym c.same_cell ∙ ap (slot t.counters.cells) (kept c.standing))) y)
-                  ];
-            }
+            shut_kept out k (cell_else t o (worker t n).ticket out.cell n out.worker k e) z
+            (λ c. e (sym c.same_cell ∙ ap (slot t.counters.cells) (kept c.standing)))
             )
 
   -- law 6, of a frame change, on all tables

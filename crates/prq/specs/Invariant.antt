@@ -6,10 +6,10 @@ use Rattle.tickets.specs.Places.{slot}
 use Rattle.ring.specs.declared.table.Phase.{Phase}
 use Rattle.ring.specs.declared.table.Worker.{Worker}
 use Rattle.ring.specs.declared.table.Phase.TheVariants.{Idle, Engine, Kind}
-use Rattle.ring.specs.Laws.{Turned, then_table}
+use Rattle.ring.specs.Laws.{Reached, Turned, then_table}
 use Rattle.ring.specs.Table.{Table, idle_worker, laid_out, worker, cell}
 use Rattle.ring.specs.Turns.{Turn}
-use Rattle.ring.proofs.Induction.{OfNew, by_turns, each_worker_after}
+use Rattle.ring.proofs.Induction.{OfNew, by_turns, each_worker_after, reached_orderly}
 use Rattle.ring.proofs.Lawful.{OfReached}
 use Rattle.ring.proofs.New.{new_worker}
 use Rattle.ring.proofs.Orderly.{Orderly}
@@ -46,3 +46,7 @@ module _ {I : Type 0} where
   pub reached_kept : OfReached {I = I} prq_step Promised
   reached_kept =
       by_turns prq_step (λ t _. touches t) Promised (new_kept I) (λ t n out _ o _ d p. turn_kept t o p n out d) (λ t t' _ _ _ f p. frame_kept t t' f p)
+
+  -- what holds of every orderly table with its promises kept holds of every table that calls with PRQ led to
+  pub when_reached : {P : Table I → Type 0} → ((t : Table I) → Orderly t → Promised t → P t) → (t : Table I) → Reached prq_step t → P t
+  when_reached f t r = f t (reached_orderly prq_step (λ u _. touches u) t r) (reached_kept t r)

@@ -16,8 +16,7 @@ ghost use Rattle.prq.specs.Rows.{prq_step};
 ghost use Rattle.prq.specs.Worked.{prq_runs, PrqRunsStand};
 ghost use Rattle.prq.specs.Barred.{prq_barred};
 ghost use Rattle.prq.specs.Turns.{touches};
-ghost use Rattle.ring.proofs.Induction.{reached_orderly};
-ghost use Rattle.prq.specs.Invariant.{reached_kept};
+ghost use Rattle.prq.specs.Invariant.{when_reached};
 ghost use Rattle.prq.specs.Laws.{places_free_lem, takes_held_lem, leaves_items_lem, passes_barred_lem, stays_barred_lem};
 ghost use Rattle.prq.specs.RoundTrip.{prq_round_trip};
 ghost use Rattle.std.proofs.Common.{rules};
@@ -46,15 +45,15 @@ impl<I: Copy> RingKind<I> for Prq {
 
     ghost touches_its_own = { λ t r. touches t };
 
-    ghost places_free = { λ t r. places_free_lem t (reached_orderly prq_step (λ u _. touches u) t r) (reached_kept t r) };
+    ghost places_free = { when_reached places_free_lem };
 
-    ghost takes_held = { λ t r. takes_held_lem t (reached_orderly prq_step (λ u _. touches u) t r) (reached_kept t r) };
+    ghost takes_held = { when_reached takes_held_lem };
 
-    ghost leaves_items = { λ t r. leaves_items_lem t (reached_orderly prq_step (λ u _. touches u) t r) (reached_kept t r) };
+    ghost leaves_items = { when_reached leaves_items_lem };
 
-    ghost passes_barred = { λ t r. passes_barred_lem t (reached_orderly prq_step (λ u _. touches u) t r) (reached_kept t r) };
+    ghost passes_barred = { when_reached passes_barred_lem };
 
-    ghost stays_barred = { λ t r. stays_barred_lem t (reached_orderly prq_step (λ u _. touches u) t r) (reached_kept t r) };
+    ghost stays_barred = { when_reached stays_barred_lem };
 
     ghost round_trip = { prq_round_trip };
 
