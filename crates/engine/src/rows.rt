@@ -1,5 +1,5 @@
 // Each row reads fields of the worker's record and writes the record whole.
-ghost use Rattle.std.specs.Prelude.{◌≡◌, ℕ, ◌+◌, ◌≤◌, ◌==◌, if◌then◌else◌, Ok, Err};
+ghost use Rattle.std.specs.Prelude.{◌≡◌, ◌+◌, ◌≤◌, ◌==◌, if◌then◌else◌, Ok, Err};
 ghost use Rattle.std.specs.Option.{ok_or};
 ghost use Rattle.ring.specs.declared.answers.Refusal.TheVariants.{Misfit, Spent};
 ghost use Rattle.ring.specs.Fields.{with_phase, with_ticket, finished};
@@ -17,7 +17,7 @@ use tickets::*;
 
 // The worker draws a ticket from Head or Tail and goes on. The counter comes back as it is after that.
 fn draw<I: Copy>(counter: u64, worker: &mut Worker<I>, phase: Phase) -> Result<u64, Refusal>
-    requires { counter ≤ 1000000000000 }
+    requires { counter ≤ counter_limit }
     ensures counter { result ≡ if counter == counter_limit then Err Spent else Ok (counter + 1) }
     ensures record { worker.new ≡ if counter == counter_limit then worker.old else with_phase (with_ticket worker.old (ticket counter)) phase }
 {

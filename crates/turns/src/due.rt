@@ -1,6 +1,6 @@
 // The turn that is due.
-ghost use Rattle.std.specs.Prelude.{◌≡◌, ℕ, ◌<◌, Ok, Err};
-ghost use Rattle.ring.specs.declared.table.Phase.TheVariants.{Kind};
+ghost use Rattle.std.specs.Prelude.{◌≡◌, ◌<◌, Ok, Err};
+ghost use Rattle.ring.specs.Table.{counter_limit};
 ghost use Rattle.turns.specs.Found.{finds, row_of};
 
 use crate::found::*;
@@ -14,7 +14,7 @@ use tickets::*;
 pub struct Due {
     pub row: KindRow,
     pub found: Found,
-    pub ghost within: { found.round.0 < 1000000000000 },
+    pub ghost within: { found.round.0 < counter_limit },
 }
 
 impl Due {
