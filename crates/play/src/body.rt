@@ -53,8 +53,8 @@ pub(crate) fn first_fault(items: ItemChoice, body: &[u8]) -> Option<PlayFault>
         if end == body.len() || body[end] != LF {
             break Some(cut);
         }
-        if let Err(fault) = read_order(items, letter, &body[at..end]).at(line) {
-            break Some(fault);
+        if let Err(fault) = read_order(items, letter, &body[at..end]) {
+            break Some(PlayFault::Line { line, fault });
         }
         at = end + 1;
         line += 1;
