@@ -3,13 +3,14 @@ ghost use Rattle.std.specs.Prelude.{◌≡◌, ◌-◌, ◌≤◌, length, take,
 ghost use Rattle.columns.specs.Faults.{at_column};
 ghost use Rattle.play.specs.Letters.{width_of};
 ghost use Rattle.play.specs.declared.letter.Letter.TheVariants.{Order as order_letter};
-ghost use Rattle.play.specs.Orders.{header_reading, ring_choice, item_choice, item_check, order_reading, heard};
+ghost use Rattle.play.specs.Kinds.{KindRead};
+ghost use Rattle.play.specs.Orders.{field_reading, header_reading, item_check, order_reading, heard};
 
 use crate::fault::*;
 use crate::header::*;
 use crate::letter::*;
 use crate::order::Order;
-use columns::{ColumnFault, ColumnNumber, at_column, read_number};
+use columns::{ColumnFault, ColumnNumber, ReadRefusal, at_column, read_number};
 use items::{ITEM_WIDTH, ItemKind, Job, Patch};
 use tickets::WorkerNo;
 
@@ -31,24 +32,17 @@ fn field<N: ColumnNumber>(
     at_column(first, read_number(&line[start..last], least, most))
 }
 
-fn chosen_ring(n: u16) -> RingChoice
-    ensures { result ≡ ring_choice n }
+// The kind whose number stands in the columns `first` to `last`.
+fn kind<K: TryFrom<u16, Error = ReadRefusal>>(
+    line: &[u8],
+    first: usize,
+    last: usize,
+) -> Result<K, ColumnFault>
+    requires { (1 ≤ first) × ((first ≤ last) × (last ≤ length line.now)) }
+    ensures { KindRead K.try_from_gives first (field_reading first last 0 65535 line.now) result }
 {
-    if n == 1 {
-        RingChoice::Crq
-    } else {
-        RingChoice::Prq
-    }
-}
-
-fn chosen_items(n: u16) -> ItemChoice
-    ensures { result ≡ item_choice n }
-{
-    if n == 1 {
-        ItemChoice::Patch
-    } else {
-        ItemChoice::Job
-    }
+    let number = field(line, first, last, 0, u16::MAX)?;
+    at_column(first, K::try_from(number))
 }
 
 // The header that the columns of an R line say.
@@ -56,15 +50,15 @@ pub(crate) fn read_header(line: &[u8]) -> Result<Header, LineFault>
     requires { length line.now ≡ 14 }
     ensures { result ≡ header_reading line.now }
 {
-    let ring = field(line, 2, 3, 1, 2)?;
+    let ring = kind(line, 2, 3)?;
     let cells = field(line, 4, 8, 1, 1024)?;
     let workers = field(line, 9, 12, 1, 64)?;
-    let items = field(line, 13, 14, 1, 2)?;
+    let items = kind(line, 13, 14)?;
     Ok(Header {
-        ring: chosen_ring(ring),
+        ring,
         cells,
         workers,
-        items: chosen_items(items),
+        items,
     })
 }
 
