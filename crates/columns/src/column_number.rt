@@ -1,4 +1,4 @@
-// The number types that stand in columns.
+// The number types that stand in columns. Each has an impl of its own: a macro may write none, as each proves the laws.
 ghost use Rattle.std.specs.Prelude.{◌≡◌, ℕ, ℤ, pos, ◌≤◌, ◌≤ℤ◌, List, Result, MatchOption, FitsSigned};
 ghost use Rattle.std.proofs.Common.{lit≤};
 ghost use Rattle.std.specs.Int.{w16, w32, w64, FitsUnsigned};

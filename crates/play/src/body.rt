@@ -30,6 +30,7 @@ pub(crate) fn first_fault(items: ItemChoice, body: &[u8]) -> Option<PlayFault>
     requires { length body.now ≤ 60000 }
     ensures { result ≡ fault_part (order_lines items 2 (lines_of body.now)) }
 {
+    // the form that the project fixed: nested loops over lines and columns, left by a label with the fault as the value
     let mut at = 0;
     let mut line = 2;
     let fault = 'reading: loop {

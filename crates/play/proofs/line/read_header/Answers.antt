@@ -1,8 +1,7 @@
 -- The four fields from the left, the kinds by their numbers.
 use Rattle.std.proofs.Common.{◌≡◌, Ok, Err, sym, refl, ◌∙◌, rules}
 use Rattle.play.specs.declared.fault.LineFault.TheVariants.{Column}
-use Rattle.play.specs.Orders.{ring_choice, item_choice, field_reading}
-use Rattle.play.proofs.KindNumbers.{as_kind, ring_of, item_of, header_told}
+use Rattle.play.proofs.KindNumbers.{ring_of, item_of, header_told}
 use Rattle.play.proofs.line.read_header.Goals as goal
 
 pub returns-in_err-ring : goal.returns-in_err-ring
