@@ -1,19 +1,27 @@
 -- What the reader's pass has seen of the columns so far, and what one more column makes of it.
-use Rattle.std.specs.Prelude.{ℕ, ◌+◌, ◌-◌, ◌*◌, Bool, cond, ◌&&◌, ℤ, pos, negsuc, neg_ℤ, Some, None, Ok, Err, Option, Result, ◌==◌, int_le, nat_le}
-use Rattle.std.specs.Int.{w128, saturate_signed}
+use Rattle.std.specs.Prelude.{ℕ, ◌+◌, ◌-◌, ◌*◌, ◌/◌, ◌%◌, ◌^◌, min, Bool, cond, ◌&&◌, ℤ, pos, negsuc, neg_ℤ, Some, None, Ok, Err, Option, Result, ◌==◌, int_le, nat_le}
 use Rattle.columns.specs.declared.refusal.ReadRefusal.{ReadRefusal}
 use Rattle.columns.specs.declared.refusal.ReadRefusal.TheVariants.{Range}
 use Rattle.columns.specs.declared.scanning.Seen.{Seen}
 use Rattle.columns.specs.declared.scanning.Seen.TheVariants.{Blanks, Minus, Number, Nothing}
 
--- a number as the code holds it: one past 128 bits stays at their end
+-- the first number that 64 bits don't hold
+abbrev pub long : ℕ
+long = 2 ^ 64
+
+-- a magnitude as the code holds it: the digits before the last come to no more than that number
+abbrev pub held_size : ℕ → ℕ
+held_size n = min (n / 10) long * 10 + n % 10
+
+-- a number as the code holds it
 abbrev pub held : ℤ → ℤ
-held z = saturate_signed w128 z
+held (pos n) = pos (held_size n)
+held (negsuc n) = neg_ℤ (pos (held_size (n + 1)))
 
 -- one more digit behind a number
 abbrev pub more : ℤ → ℕ → ℤ
-more (pos n) d = held (pos (n * 10 + d))
-more (negsuc n) d = held (negsuc (n * 10 + 9 + d))
+more (pos n) d = pos (min n long * 10 + d)
+more (negsuc n) d = neg_ℤ (pos (min (n + 1) long * 10 + d))
 
 -- a number with one more digit behind it: none follows a first zero
 abbrev pub with_digit : ℤ → ℕ → Seen

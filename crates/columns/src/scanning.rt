@@ -4,6 +4,9 @@ ghost use Rattle.std.specs.Option.{option_map};
 ghost use Rattle.columns.specs.Number.{number};
 ghost use Rattle.columns.specs.Scanning.{held, seen_after, seen_number, with_digit};
 
+// The first number that 64 bits don't hold.
+const LONG: i128 = 1 << 64;
+
 // What the columns so far are: blanks, blanks and a minus, a number, or nothing that can become one.
 #[derive(Clone, Copy)]
 enum Seen {
@@ -38,18 +41,17 @@ fn next_seen(seen: Seen, column: u8) -> Seen
     }
 }
 
-// No digit follows a first zero.
+// No digit follows a first zero. Past 64 bits the digits before the last no longer count.
 fn one_more_digit(so_far: i128, digit: u8) -> Seen
     ensures { result ≡ with_digit so_far digit }
 {
     let digit = i128::from(digit);
-    let tens = so_far.saturating_mul(10);
     if so_far == 0 {
         Seen::Nothing
     } else if so_far < 0 {
-        Seen::Number(tens.saturating_sub(digit))
+        Seen::Number(so_far.max(-LONG) * 10 - digit)
     } else {
-        Seen::Number(tens.saturating_add(digit))
+        Seen::Number(so_far.min(LONG) * 10 + digit)
     }
 }
 
