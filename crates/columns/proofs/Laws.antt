@@ -173,7 +173,7 @@ length_digits k (suc n) p h =
     let e : length (digits (suc n)) ≡ length (digits_of 10 (suc n)) = ap length (digits_high (suc n) (omega arith)) ∙ length-map (digits_of 10 (suc n)) (λ d. 48 + d) in
     omega (arith, length-digits_of-le 10 k (suc n) (omega arith) h)
 
-digits_below : (k n : ℕ) → length (digits n) ≤ k → n < 10 ^ k
+pub digits_below : (k n : ℕ) → length (digits n) ≤ k → n < 10 ^ k
 digits_below k zero h = one-le-pow k 10 (omega arith)
 digits_below k (suc n) h =
     let e : length (digits (suc n)) ≡ length (digits_of 10 (suc n)) = ap length (digits_high (suc n) (omega arith)) ∙ length-map (digits_of 10 (suc n)) (λ d. 48 + d) in

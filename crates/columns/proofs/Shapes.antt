@@ -20,9 +20,6 @@ behind p x y k c e f = ap (λ l. l ++ (c ∷ [])) e ∙ append_assoc (replicate 
 is_digit : (low c : ℕ) → digit_from low c ≡ true → (low ≤ c) × (c ≤ 57)
 is_digit low c e = let b = and_parts _ _ e in (leb-true _ _ b.0, leb-true _ _ b.1)
 
-last_is : (low c : ℕ) → low ≤ c → low + (c - low) ≡ c
-last_is low c h = omega arith
-
 text_one_pos : (c : ℕ) → 48 ≤ c → c ≤ 57 → (c ∷ []) ≡ text (pos (c - 48))
 unfolding text
 text_one_pos c lo hi = let e : c ≡ 48 + (c - 48) = omega arith in ap (λ x. x ∷ []) e ∙ sym (digits_one (c - 48) (omega arith))

@@ -1,55 +1,41 @@
 -- The writers' loops and the parts of a field.
-use Rattle.std.proofs.Common.{◌≡◌, ℕ, zero, suc, ◌+◌, ◌-◌, ◌/◌, ◌%◌, ◌<◌, ◌≤◌, Bool, true, false, List, [], ◌∷◌, ◌++◌, length, drop, set, replicate, ℤ, Ok, Err, sym, refl, ap, ◌∙◌, append_assoc, arith}
+use Rattle.std.proofs.Common.{◌≡◌, ℕ, suc, ◌+◌, ◌-◌, ◌/◌, ◌*◌, ◌^◌, ◌%◌, ◌<◌, ◌≤◌, Bool, true, false, List, [], ◌∷◌, ◌++◌, length, drop, replicate, ℤ, pos, negsuc, Ok, Err, sym, refl, ap, ◌∙◌, append_assoc, inl, inr, pow-suc, Some, None, Option, arith}
 use borrow.Rule.Slice.PartMut.{put_mid}
-use Rattle.std.specs.Int.Digits.{digits_of}
-use Rattle.std.proofs.lemmas.List.{drop-set, drop_all, drop_at, drop-drop, take_at, length-append, length-drop, length-map, length-replicate, nil_from_length, replicate_more, set_at}
-use Rattle.std.proofs.lemmas.Bool.{cond-true, lt-ltb}
+use Rattle.std.proofs.lemmas.List.{drop_at, drop-drop, take_at, length-append, length-replicate}
+use Rattle.std.proofs.lemmas.Bool.{cases_lt, cond-true, lt-ltb, le-ltb, ltb-true}
+use lib.Signed.{lt_z}
+use Rattle.std.specs.Prelude.{IfNone, IfSome, unsigned_abs}
+use Rattle.std.specs.Int.{from_bool}
+use Rattle.std.specs.Option.{option_map_or}
 use Rattle.columns.specs.Number.{digits, text, field}
 use Rattle.columns.specs.Signs.{front, sign_width, signed}
 use Rattle.columns.specs.Writing.{put, written}
 use Rattle.columns.specs.declared.refusal.WriteRefusal.TheVariants.{Narrow, Range}
-use Rattle.columns.proofs.Laws.{written_fits, written_past}
-use Rattle.columns.proofs.Texts.{high, high_step, digits_last}
+use Rattle.columns.proofs.Laws.{digits_below, length_digits, written_fits, written_past}
+use Rattle.columns.proofs.Texts.{digits_high, digits_last, digits_one}
 
-pub length_high : (n : ℕ) → length (high n) ≡ length (digits_of 10 n)
-length_high n = length-map (digits_of 10 n) (λ d. 48 + d)
+-- by the highest power of ten that is not above the number
+pub length_digits_power : (k n : ℕ) → 10 ^ k ≤ n → n < 10 * 10 ^ k → length (digits n) ≡ k + 1
+length_digits_power k n lo hi =
+    let e : 10 ^ suc k ≡ 10 ^ k * 10 = pow-suc 10 k in
+    let at_most : length (digits n) ≤ suc k = length_digits (suc k) n (omega arith) (omega arith) in
+    elim (cases_lt k (length (digits n))) [
+      | inl more ↦ omega arith
+      | inr few ↦ absurd (omega (arith, digits_below k n few))
+    ]
 
-pub length_digits_last : (n : ℕ) → length (digits n) ≡ length (digits_of 10 (n / 10)) + 1
-length_digits_last n = ap length (digits_last n) ∙ length-append (high (n / 10)) ((48 + n % 10) ∷ []) ∙ ap (λ k. k + 1) (length_high (n / 10))
+pub digits_counted : (o : Option ℕ) (n : ℕ) → IfNone o (n ≡ 0) → IfSome o (λ k. 10 ^ k ≤ n) → IfSome o (λ k. n < 10 * 10 ^ k) → option_map_or (λ k. k + 1) o 1 ≡ length (digits n)
+unfolding digits
+digits_counted None n z lo hi = ap (λ m. length (digits m)) (sym z)
+digits_counted (Some k) n z lo hi = sym (length_digits_power k n lo hi)
 
--- the last digit
+-- the last digit, and the others before it
 
-pub digits_begun : (n : ℕ) (xs : List ℕ) → 0 < length xs → high (n / 10) ++ drop (length xs - 1) (set xs (length xs - 1) (48 + n % 10)) ≡ digits n
-digits_begun n xs h =
-    ap (λ l. high (n / 10) ++ l) (drop-set xs (length xs - 1) (48 + n % 10) (omega arith) ∙ ap (λ l. (48 + n % 10) ∷ l) (drop_all (length xs - 1 + 1) xs (omega arith)))
-    ∙ sym (digits_last n)
+pub digits_more : (n : ℕ) → 10 ≤ n → digits n ≡ digits (n / 10) ++ ((48 + n % 10) ∷ [])
+digits_more n h = digits_last n ∙ ap (λ l. l ++ ((48 + n % 10) ∷ [])) (sym (digits_high (n / 10) (omega arith)))
 
--- how many digits are to come
-to_come : (n rest i : ℕ) (xs : List ℕ) → i ≤ length xs → length xs ≡ length (digits n) → high rest ++ drop i xs ≡ digits n → length (high rest) ≡ i
-to_come n rest i xs h e inv = omega (arith, ap length inv, length-append (high rest) (drop i xs), length-drop i xs)
-
--- one more digit to the left
-pub digits_turn : (n rest i : ℕ) (xs : List ℕ) → 0 < i → i ≤ length xs → length xs ≡ length (digits n) → high rest ++ drop i xs ≡ digits n → high (rest / 10) ++ drop (i - 1) (set xs (i - 1) (48 + rest % 10)) ≡ digits n
-digits_turn n rest i xs p h e inv =
-    let b : (i - 1) + 1 ≡ i = omega arith in
-    ap (λ l. high (rest / 10) ++ l) (drop-set xs (i - 1) (48 + rest % 10) (omega arith) ∙ ap (λ m. (48 + rest % 10) ∷ drop m xs) b)
-    ∙ sym (append_assoc (high (rest / 10)) ((48 + rest % 10) ∷ []) (drop i xs))
-    ∙ ap (λ l. l ++ drop i xs) (sym (high_step rest (some rest refl)))
-    ∙ inv where
-      some : (m : ℕ) → rest ≡ m → 0 < rest
-      some zero z = absurd (omega (arith, to_come n rest i xs h e inv, ap (λ k. length (high k)) z))
-      some (suc m) z = omega arith
-
-pub digits_ended : (n rest : ℕ) (xs : List ℕ) → length xs ≡ length (digits n) → high rest ++ xs ≡ digits n → xs ≡ digits n
-digits_ended n rest xs e inv = ap (λ l. l ++ xs) (sym (nil_from_length (high rest) (to_come n rest 0 xs (omega arith) e inv))) ∙ inv
-
--- blanks with a minus at their end
-pub front_ended : (k : ℕ) → 0 < k → set (replicate k 32) (k - 1) 45 ≡ front k true
-front_ended k h =
-    let b : (k - 1) + 1 ≡ k = omega arith in
-    ap (λ m. set (replicate m 32) (k - 1) 45) (sym b)
-    ∙ ap (λ l. set l (k - 1) 45) (sym (replicate_more (k - 1) 32))
-    ∙ set_at (replicate (k - 1) 32) 32 [] 45 (k - 1) (length-replicate (k - 1) 32)
+pub digits_single : (n : ℕ) → n < 10 → digits n ≡ (48 + n % 10) ∷ []
+digits_single n h = let r : n % 10 ≡ n = omega arith in digits_one n h ∙ ap (λ m. (48 + m) ∷ []) (sym r)
 
 -- a field is its front and its digits
 
@@ -78,7 +64,7 @@ pub written_narrow : (w : ℕ) (z : ℤ) (buffer : List ℕ) → length buffer <
 unfolding written
 written_narrow w z buffer h = sym (cond-true _ _ _ (lt-ltb (length buffer) w h))
 
-pub written_wide : (w : ℕ) (b : Bool) (n : ℕ) (buffer : List ℕ) → (b ≡ true → 0 < n) → w ≤ length buffer → w < length (digits n) + sign_width b → (Err Range, buffer) ≡ written w (signed b n) buffer
+written_wide : (w : ℕ) (b : Bool) (n : ℕ) (buffer : List ℕ) → (b ≡ true → 0 < n) → w ≤ length buffer → w < length (digits n) + sign_width b → (Err Range, buffer) ≡ written w (signed b n) buffer
 written_wide w b n buffer h room wide = sym (written_past w (signed b n) buffer room (omega (arith, length_text_signed b n h)))
 
 two_parts : (a k : ℕ) (buffer x y : List ℕ) → length x ≡ a → length y ≡ k → put_mid a k (put_mid 0 (a - 0) buffer x) y ≡ put (x ++ y) buffer
@@ -97,8 +83,30 @@ joined_parts w a k z buffer x y ex ey f room fits =
     let last : put_mid a k (put_mid 0 (a - 0) buffer x) y ≡ put (field w z) buffer = two_parts a k buffer x y ex ey ∙ ap (λ l. put l buffer) f in
     ap (λ l. (Ok tt, l)) last ∙ sym (written_fits w z buffer room fits)
 
-pub written_parts : (w : ℕ) (b : Bool) (n a k : ℕ) (buffer x y : List ℕ) → (b ≡ true → 0 < n) → w ≤ length buffer → length (digits n) + sign_width b ≤ w → a ≡ w - length (digits n) → k ≡ w - a → x ≡ front a b → y ≡ digits n → (Ok tt, put_mid a k (put_mid 0 (a - 0) buffer x) y) ≡ written w (signed b n) buffer
+written_parts : (w : ℕ) (b : Bool) (n a k : ℕ) (buffer x y : List ℕ) → (b ≡ true → 0 < n) → w ≤ length buffer → length (digits n) + sign_width b ≤ w → a ≡ w - length (digits n) → k ≡ w - a → x ≡ front a b → y ≡ digits n → (Ok tt, put_mid a k (put_mid 0 (a - 0) buffer x) y) ≡ written w (signed b n) buffer
 written_parts w b n a k buffer x y h room fits ea ek ex ey =
     joined_parts w a k (signed b n) buffer x y (ap length ex ∙ length_front a b (omega arith)) (ap length ey ∙ omega arith)
     (ap (λ l. l ++ y) ex ∙ ap (λ l. front a b ++ l) ey ∙ ap (λ m. front m b ++ digits n) ea ∙ sym (field_parts w b n h fits))
     room (omega (arith, length_text_signed b n h))
+
+-- the same, by a number
+
+signed_parts : (z : ℤ) → signed (lt_z z (pos 0)) (unsigned_abs z) ≡ z
+signed_parts (pos n) = ap (λ b. signed b n) (le-ltb n 0 (omega arith))
+signed_parts (negsuc n) = ap negsuc (omega arith)
+
+minus_some : (z : ℤ) → lt_z z (pos 0) ≡ true → 0 < unsigned_abs z
+minus_some (pos n) e = absurd (omega (arith, ltb-true n 0 e))
+minus_some (negsuc n) e = omega arith
+
+width_of_sign : (b : Bool) → from_bool b ≡ sign_width b
+width_of_sign true = refl
+width_of_sign false = refl
+
+pub number_wide : (w : ℕ) (z : ℤ) (buffer : List ℕ) → w ≤ length buffer → w < length (digits (unsigned_abs z)) + from_bool (lt_z z (pos 0)) → (Err Range, buffer) ≡ written w z buffer
+number_wide w z buffer room wide =
+    written_wide w (lt_z z (pos 0)) (unsigned_abs z) buffer (minus_some z) room (omega (arith, width_of_sign (lt_z z (pos 0)))) ∙ ap (λ y. written w y buffer) (signed_parts z)
+
+pub number_parts : (w : ℕ) (z : ℤ) (a k : ℕ) (buffer x y : List ℕ) → w ≤ length buffer → length (digits (unsigned_abs z)) + from_bool (lt_z z (pos 0)) ≤ w → a ≡ w - length (digits (unsigned_abs z)) → k ≡ w - a → x ≡ front a (lt_z z (pos 0)) → y ≡ digits (unsigned_abs z) → (Ok tt, put_mid a k (put_mid 0 (a - 0) buffer x) y) ≡ written w z buffer
+number_parts w z a k buffer x y room fits ea ek ex ey =
+    written_parts w (lt_z z (pos 0)) (unsigned_abs z) a k buffer x y (minus_some z) room (omega (arith, width_of_sign (lt_z z (pos 0)))) ea ek ex ey ∙ ap (λ v. written w v buffer) (signed_parts z)

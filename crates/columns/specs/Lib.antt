@@ -2,6 +2,8 @@ pub mod Refusals
 pub mod Faults
 pub mod Number
 pub mod Reading
+pub mod NumberTypes
+pub mod TypeLaws
 pub mod Writing
 pub mod Scanning
 pub mod Row

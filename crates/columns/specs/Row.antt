@@ -1,5 +1,6 @@
 -- Several numbers in columns, one behind the other.
-use Rattle.std.specs.Prelude.{◌≡◌, ℕ, ◌+◌, ◌<◌, ◌≤◌, Bool, true, cond, ◌&&◌, List, [], ◌∷◌, ◌++◌, length, pos, Some, None, Ok, Err, Option, Result, nat_le, nat_lt}
+use Rattle.std.specs.Prelude.{◌≡◌, ℕ, ◌+◌, ◌<◌, ◌≤◌, Bool, cond, List, [], ◌∷◌, ◌++◌, length, pos, Some, None, Ok, Err, Option, Result, nat_le, nat_lt}
+use Rattle.std.specs.List.{list_all}
 use Rattle.columns.specs.declared.refusal.WriteRefusal.{WriteRefusal}
 use Rattle.columns.specs.declared.refusal.WriteRefusal.TheVariants.{Narrow, Range}
 use Rattle.columns.specs.declared.row.Field.{Field}
@@ -18,8 +19,7 @@ row_text (f ∷ fs) = field f.width (pos f.number) ++ row_text fs
 
 -- each number fits its columns
 abbrev pub row_fits : List Field → Bool
-row_fits [] = true
-row_fits (f ∷ fs) = nat_le (length (text (pos f.number))) f.width && row_fits fs
+row_fits fs = list_all (λ f. nat_le (length (text (pos f.number))) f.width) fs
 
 -- the buffer has to have all columns, then each number has to fit its own; a refusal leaves the buffer as it was
 abbrev pub row_written : List Field → List ℕ → Result (Unit {0}) WriteRefusal × List ℕ

@@ -15,8 +15,5 @@ pub struct ColumnFault {
 pub fn at_column<T>(column: usize, read: Result<T, ReadRefusal>) -> Result<T, ColumnFault>
     ensures { result ≡ at_column column read }
 {
-    match read {
-        Ok(x) => Ok(x),
-        Err(refusal) => Err(ColumnFault { column, refusal }),
-    }
+    read.map_err(|refusal| ColumnFault { column, refusal })
 }

@@ -5,6 +5,7 @@
 // Rests on: no other crate.
 #![tactic(auto)]
 
+mod column_number;
 mod fault;
 mod reading;
 mod refusal;
@@ -12,11 +13,12 @@ mod row;
 mod scanning;
 mod writing;
 
+pub use column_number::ColumnNumber;
 pub use fault::{ColumnFault, at_column};
-pub use reading::{read_signed, read_unsigned};
+pub use reading::read_number;
 pub use refusal::{ReadRefusal, WriteRefusal};
 pub use row::{Field, write_line, write_row};
-pub use writing::{write_signed, write_unsigned};
+pub use writing::write_number;
 
 #[cfg(test)]
 mod tests;

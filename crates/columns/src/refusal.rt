@@ -1,4 +1,5 @@
 // Why columns are not read, and why a number is not written.
+// Numbers by a match, case by case: with discriminants and `self as u16` no line would say which case is told as which.
 ghost use Rattle.std.specs.Prelude.{◌≡◌};
 ghost use Rattle.columns.specs.Refusals.{read_refusal_number, write_refusal_number};
 

@@ -1,15 +1,25 @@
 // Writes several numbers into columns, one behind the other.
-ghost use Rattle.std.specs.Prelude.{◌≡◌, true, length};
+ghost use Rattle.std.specs.Prelude.{◌≡◌, true, length, nat_le, pos};
+ghost use Rattle.columns.specs.Number.{text};
 ghost use Rattle.columns.specs.Row.{RowEnd, line_written, row_fits, row_text, row_width, row_written};
 
 use crate::refusal::WriteRefusal;
-use crate::writing::{digit_count, write_unsigned};
+use crate::writing::{digit_count, write_number};
 
 // A number, and how many columns it is written into.
 #[derive(Clone, Copy, PartialEq, Eq, Debug)]
 pub struct Field {
     pub width: usize,
     pub number: u64,
+}
+
+impl Field {
+    // Whether the number has room in its columns.
+    fn fits(&self) -> bool
+        ensures { result ≡ nat_le (length (text (pos self.now.number))) self.now.width }
+    {
+        digit_count(self.number) <= self.width
+    }
 }
 
 // Writes the numbers right-justified into their columns.
@@ -49,24 +59,17 @@ pub fn write_line(buffer: &mut [u8], mark: u8, fields: &[Field]) -> Result<(), W
 fn all_fit(fields: &[Field]) -> bool
     ensures { result ≡ row_fits fields.now }
 {
-    for field in fields {
-        if digit_count(field.number) > field.width {
-            return false;
-        }
-    }
-    true
+    fields.iter().all(|field| field.fits())
 }
 
 // How many columns the numbers take, if there are so many.
 fn row_end(fields: &[Field], room: usize) -> Option<usize>
     ensures { RowEnd (row_width fields.now) room result }
 {
+    // a loop with `?`: `try_fold` takes the same step and has to name it as a closure
     let mut left = room;
     for field in fields {
-        if left < field.width {
-            return None;
-        }
-        left -= field.width;
+        left = left.checked_sub(field.width)?;
     }
     Some(room - left)
 }
@@ -77,10 +80,9 @@ fn fill_row(columns: &mut [u8], fields: &[Field])
     requires fits { row_fits fields.now ≡ true }
     ensures { columns.new ≡ row_text fields.now }
 {
-    let mut at = 0;
-    for field in fields {
-        let end = at + field.width;
-        let _ = write_unsigned(&mut columns[at..end], field.width, field.number);
-        at = end;
+    if let Some((field, others)) = fields.split_first() {
+        let (front, behind) = columns.split_at_mut(field.width);
+        let _ = write_number(front, field.width, field.number);
+        fill_row(behind, others);
     }
 }

@@ -2,33 +2,29 @@
 ghost use Rattle.std.specs.Prelude.{◌≡◌};
 ghost use Rattle.std.specs.Option.{option_map};
 ghost use Rattle.columns.specs.Number.{number};
-ghost use Rattle.columns.specs.Scanning.{begun, held_number, more, seen_after, seen_number, with_digit};
+ghost use Rattle.columns.specs.Scanning.{held, seen_after, seen_number, with_digit};
 
-// A number as it was read; a magnitude past 64 bits is not kept.
-#[derive(Clone, Copy)]
-pub struct Number {
-    pub negative: bool,
-    pub magnitude: Option<u64>,
-}
+// The first number that 64 bits don't hold.
+const LONG: i128 = 1 << 64;
 
 // What the columns so far are: blanks, blanks and a minus, a number, or nothing that can become one.
 #[derive(Clone, Copy)]
 enum Seen {
     Blanks,
     Minus,
-    Digits(Number),
+    Number(i128),
     Nothing,
 }
 
-// The number that the columns write, if they write one.
-pub fn scanned(columns: &[u8]) -> Option<Number>
-    ensures { result ≡ option_map held_number (number columns.now) }
+// The number that the columns write, if they write one; one past 128 bits is held at their end.
+pub fn scanned(columns: &[u8]) -> Option<i128>
+    ensures { result ≡ option_map held (number columns.now) }
 {
-    let mut seen = Seen::Blanks;
-    for column in columns {
-        seen = next_seen(seen, *column);
-    }
-    whole(seen)
+    whole(
+        columns
+            .iter()
+            .fold(Seen::Blanks, |seen, column| next_seen(seen, *column)),
+    )
 }
 
 // What one more column makes of what was seen.
@@ -38,50 +34,32 @@ fn next_seen(seen: Seen, column: u8) -> Seen
     match (seen, column) {
         (Seen::Blanks, b' ') => Seen::Blanks,
         (Seen::Blanks, b'-') => Seen::Minus,
-        (Seen::Blanks, b'0'..=b'9') => first_digit(false, column - b'0'),
-        (Seen::Minus, b'1'..=b'9') => first_digit(true, column - b'0'),
-        (Seen::Digits(so_far), b'0'..=b'9') => one_more_digit(so_far, column - b'0'),
+        (Seen::Blanks, b'0'..=b'9') => Seen::Number(i128::from(column - b'0')),
+        (Seen::Minus, b'1'..=b'9') => Seen::Number(-i128::from(column - b'0')),
+        (Seen::Number(so_far), b'0'..=b'9') => one_more_digit(so_far, column - b'0'),
         _ => Seen::Nothing,
     }
 }
 
-fn first_digit(negative: bool, digit: u8) -> Seen
-    ensures { result ≡ begun negative digit }
-{
-    let magnitude = Some(u64::from(digit));
-    Seen::Digits(Number {
-        negative,
-        magnitude,
-    })
-}
-
-// No digit follows a first zero.
-fn one_more_digit(so_far: Number, digit: u8) -> Seen
+// No digit follows a first zero. Past 64 bits the digits before the last no longer count.
+fn one_more_digit(so_far: i128, digit: u8) -> Seen
     ensures { result ≡ with_digit so_far digit }
 {
-    let magnitude = match so_far.magnitude {
-        Some(0) => return Seen::Nothing,
-        Some(n) => appended(n, digit),
-        None => None,
-    };
-    Seen::Digits(Number {
-        negative: so_far.negative,
-        magnitude,
-    })
+    let digit = i128::from(digit);
+    if so_far == 0 {
+        Seen::Nothing
+    } else if so_far < 0 {
+        Seen::Number(so_far.max(-LONG) * 10 - digit)
+    } else {
+        Seen::Number(so_far.min(LONG) * 10 + digit)
+    }
 }
 
-// The magnitude with a digit behind it, while it fits.
-fn appended(n: u64, digit: u8) -> Option<u64>
-    ensures { result ≡ more n digit }
-{
-    n.checked_mul(10)?.checked_add(u64::from(digit))
-}
-
-fn whole(seen: Seen) -> Option<Number>
+fn whole(seen: Seen) -> Option<i128>
     ensures { result ≡ seen_number seen }
 {
     match seen {
-        Seen::Digits(so_far) => Some(so_far),
+        Seen::Number(so_far) => Some(so_far),
         Seen::Blanks | Seen::Minus | Seen::Nothing => None,
     }
 }

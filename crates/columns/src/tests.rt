@@ -1,7 +1,5 @@
 // Fields as they stand in lines, and the refusals they get.
-use crate::{
-    ColumnFault, ReadRefusal, at_column, read_signed, read_unsigned, write_signed, write_unsigned,
-};
+use crate::{ColumnFault, ReadRefusal, at_column, read_number, write_number};
 
 // The refusal's number, and 0 where there is none.
 fn refused<T: Drop>(read: Result<T, ReadRefusal>) -> u16 {
@@ -40,13 +38,13 @@ fn refusals(rt: HostRuntime) {
         (b"-99999999999999999999999", 24),
     ];
     for (text, number) in table {
-        assert_eq!(rt; refused(read_unsigned(text, 0, 9)), number);
-        assert_eq!(rt; refused(read_signed(text, 0, 9)), number);
+        assert_eq!(rt; refused(read_number(text, 0u64, 9)), number);
+        assert_eq!(rt; refused(read_number(text, 0i64, 9)), number);
     }
-    assert_eq!(rt; refused(read_unsigned(b"  64", 65, 99)), 24);
-    assert_eq!(rt; refused(read_signed(b"-100", -99, 999)), 24);
+    assert_eq!(rt; refused(read_number(b"  64", 65u64, 99)), 24);
+    assert_eq!(rt; refused(read_number(b"-100", -99i64, 999)), 24);
     assert_eq!(rt;
-        at_column(9, read_unsigned(b"x", 0, 9)),
+        at_column(9, read_number(b"x", 0u64, 9)),
         Err(ColumnFault {
             column: 9,
             refusal: ReadRefusal::Form,
@@ -65,14 +63,14 @@ fn numbers(rt: HostRuntime) {
         (b"9223372036854775807", i64::MAX),
     ];
     for (text, number) in table {
-        assert_eq!(rt; read_signed(text, i64::MIN, i64::MAX), Ok(number));
+        assert_eq!(rt; read_number(text, i64::MIN, i64::MAX), Ok(number));
     }
     assert_eq!(rt;
-        refused(read_signed(b"9223372036854775808", i64::MIN, i64::MAX)),
+        refused(read_number(b"9223372036854775808", i64::MIN, i64::MAX)),
         24
     );
     assert_eq!(rt;
-        read_unsigned(b" 18446744073709551615", 1, u64::MAX),
+        read_number(b" 18446744073709551615", 1, u64::MAX),
         Ok(u64::MAX)
     );
 }
@@ -92,7 +90,7 @@ fn texts(rt: HostRuntime) {
     ];
     for (width, n, text, number) in table {
         let mut buffer = *b"......";
-        let said = match write_signed(&mut buffer, width, n) {
+        let said = match write_number(&mut buffer, width, n) {
             Ok(()) => 0,
             Err(refusal) => refusal.number(),
         };
@@ -100,6 +98,14 @@ fn texts(rt: HostRuntime) {
         assert_eq!(rt; buffer, text);
     }
     let mut buffer = *b"......";
-    assert_eq!(rt; write_unsigned(&mut buffer, 5, 70), Ok(()));
+    assert_eq!(rt; write_number(&mut buffer, 5, 70u64), Ok(()));
     assert_eq!(rt; buffer, *b"   70.");
+}
+
+#[test]
+fn narrow_types(rt: HostRuntime) {
+    assert_eq!(rt; read_number(b"65535", 0, u16::MAX), Ok(u16::MAX));
+    assert_eq!(rt; read_number(b" 4294967295", 0, u32::MAX), Ok(u32::MAX));
+    assert_eq!(rt; read_number(b"-32768", i16::MIN, 0), Ok(i16::MIN));
+    assert_eq!(rt; refused(read_number(b"65536", 0, u16::MAX)), 24);
 }

@@ -1,39 +1,29 @@
 // Writes a number into the columns of a field, from the right.
-ghost use Rattle.std.specs.Prelude.{◌≡◌, ◌<◌, ◌≤◌, true, length, pos};
+ghost use Rattle.std.specs.Prelude.{◌≡◌, ◌<◌, ◌≤◌, ◌^◌, true, length};
 ghost use Rattle.columns.specs.Number.{digits};
-ghost use Rattle.columns.specs.Signs.{front, sign_width, signed};
+ghost use Rattle.columns.specs.Signs.{front};
 ghost use Rattle.columns.specs.Writing.{written};
 
+use crate::column_number::ColumnNumber;
 use crate::refusal::WriteRefusal;
 
 // Writes `n` right-justified into the first `width` bytes.
-pub fn write_unsigned(buffer: &mut [u8], width: usize, n: u64) -> Result<(), WriteRefusal>
-    ensures { (result, buffer.new) ≡ written width (pos n) buffer.old }
-{
-    write_number(buffer, width, false, n)
-}
-
-// The same for numbers with a sign.
-pub fn write_signed(buffer: &mut [u8], width: usize, n: i64) -> Result<(), WriteRefusal>
-    ensures { (result, buffer.new) ≡ written width n buffer.old }
-{
-    write_number(buffer, width, n < 0, n.unsigned_abs())
-}
-
-fn write_number(
+pub fn write_number<N: ColumnNumber>(
     buffer: &mut [u8],
     width: usize,
-    negative: bool,
-    magnitude: u64,
+    n: N,
 ) -> Result<(), WriteRefusal>
-    requires { negative ≡ true → 0 < magnitude }
-    ensures { (result, buffer.new) ≡ written width (signed negative magnitude) buffer.old }
+    ensures { (result, buffer.new) ≡ written width (N.value n) buffer.old }
 {
     if buffer.len() < width {
         return Err(WriteRefusal::Narrow);
     }
+    let number = n.wide();
+    let negative = number < 0;
+    let size = number.unsigned_abs();
+    let magnitude = size as u64;
     let digits = digit_count(magnitude);
-    if width < digits + sign_width(negative) {
+    if width < digits + usize::from(negative) {
         return Err(WriteRefusal::Range);
     }
     let start = width - digits;
@@ -42,24 +32,12 @@ fn write_number(
     Ok(())
 }
 
-fn sign_width(negative: bool) -> usize
-    ensures { result ≡ sign_width negative }
-{
-    if negative { 1 } else { 0 }
-}
-
 // How many digits the number has.
 pub(crate) fn digit_count(n: u64) -> usize
     ensures value { result ≡ length (digits n) }
     ensures bound { result ≤ 20 }
 {
-    let mut count = 1;
-    let mut rest = n / 10;
-    while rest > 0 {
-        count += 1;
-        rest /= 10;
-    }
-    count
+    n.checked_ilog10().map_or(1, |power| power as usize + 1)
 }
 
 // Blanks, and the minus of a negative number at their end.
@@ -68,9 +46,8 @@ fn write_front(columns: &mut [u8], negative: bool)
     ensures { columns.new ≡ front (length columns.old) negative }
 {
     columns.fill(b' ');
-    if negative {
-        let last = columns.len() - 1;
-        columns[last] = b'-';
+    if negative && let Some(last) = columns.last_mut() {
+        *last = b'-';
     }
 }
 
@@ -79,11 +56,10 @@ fn write_digits(columns: &mut [u8], n: u64)
     requires { length columns.old ≡ length (digits n) }
     ensures { columns.new ≡ digits n }
 {
-    let last = columns.len() - 1;
-    columns[last] = b'0' + (n % 10) as u8;
-    let mut rest = n / 10;
-    for i in (0..last).rev() {
-        columns[i] = b'0' + (rest % 10) as u8;
-        rest /= 10;
+    if let Some((last, front)) = columns.split_last_mut() {
+        *last = b'0' + (n % 10) as u8;
+        if n >= 10 {
+            write_digits(front, n / 10);
+        }
     }
 }

@@ -1,14 +1,12 @@
 // A job: a word, and a number behind two of the words.
 ghost use Rattle.std.specs.Prelude.{◌≡◌};
 ghost use Rattle.std.specs.Option.{ok_or};
-ghost use Rattle.std.specs.Str.{bytes_eq};
 ghost use Rattle.columns.specs.declared.refusal.WriteRefusal.TheVariants.{Range};
-ghost use Rattle.items.specs.Job.{bare, job_of, job_reading, job_text, numbered_text};
+ghost use Rattle.items.specs.Job.{bare, job_of, job_reading, job_text, number_reading, numbered_text};
 ghost use Rattle.items.specs.Jobs.{job_back, job_only, job_wide, job_printed};
 
 use crate::item::{ITEM_WIDTH, ItemKind};
-use crate::number::read_u32;
-use columns::{ColumnFault, ReadRefusal, WriteRefusal, write_unsigned};
+use columns::{ColumnFault, ReadRefusal, WriteRefusal, at_column, read_number, write_number};
 
 // What a solver is told to do.
 #[derive(Clone, Copy, PartialEq, Eq, Debug)]
@@ -43,7 +41,8 @@ impl ItemKind for Job {
     ghost printed = { job_printed };
 
     fn read(columns: &[u8; ITEM_WIDTH]) -> Result<Job, ColumnFault> {
-        job_of(&columns[0..WORD_WIDTH], &columns[WORD_WIDTH..ITEM_WIDTH])
+        let (word, rest) = columns.split_at(WORD_WIDTH);
+        job_of(word, rest)
     }
 
     fn columns(self) -> Result<[u8; ITEM_WIDTH], WriteRefusal> {
@@ -60,27 +59,30 @@ impl ItemKind for Job {
 fn job_of(word: &[u8], rest: &[u8]) -> Result<Job, ColumnFault>
     ensures { result ≡ job_of word.now rest.now }
 {
-    if same(word, b" block") {
-        Ok(Job::Block(read_u32(NUMBER_COLUMN, rest, NUMBER_MOST)?))
-    } else if same(word, b" sweep") {
-        Ok(Job::Sweep(read_u32(NUMBER_COLUMN, rest, NUMBER_MOST)?))
-    } else if same(word, b" flush") {
-        bare(Job::Flush, rest)
-    } else if same(word, b"  stop") {
-        bare(Job::Stop, rest)
-    } else {
-        Err(ColumnFault {
+    match word {
+        b" block" => Ok(Job::Block(read_behind(rest)?)),
+        b" sweep" => Ok(Job::Sweep(read_behind(rest)?)),
+        b" flush" => bare(Job::Flush, rest),
+        b"  stop" => bare(Job::Stop, rest),
+        _ => Err(ColumnFault {
             column: 1,
             refusal: ReadRefusal::Form,
-        })
+        }),
     }
+}
+
+// The number behind a word.
+fn read_behind(rest: &[u8]) -> Result<u32, ColumnFault>
+    ensures { result ≡ number_reading rest.now }
+{
+    at_column(NUMBER_COLUMN, read_number(rest, 0, NUMBER_MOST))
 }
 
 // A job with no number has blanks behind its word.
 fn bare(job: Job, rest: &[u8]) -> Result<Job, ColumnFault>
     ensures { result ≡ bare job rest.now }
 {
-    if same(rest, b"         ") {
+    if rest == b"         ".as_slice() {
         return Ok(job);
     }
     Err(ColumnFault {
@@ -89,22 +91,12 @@ fn bare(job: Job, rest: &[u8]) -> Result<Job, ColumnFault>
     })
 }
 
-fn same(a: &[u8], b: &[u8]) -> bool
-    ensures { result ≡ bytes_eq a.now b.now }
-{
-    a == b
-}
-
 // A word with its number behind it.
 fn numbered(word: &[u8; WORD_WIDTH], n: u32) -> Result<[u8; ITEM_WIDTH], WriteRefusal>
     ensures { result ≡ ok_or (numbered_text word.now n) Range }
 {
     let mut columns = [b' '; ITEM_WIDTH];
     columns[0..WORD_WIDTH].copy_from_slice(word);
-    write_unsigned(
-        &mut columns[WORD_WIDTH..ITEM_WIDTH],
-        NUMBER_WIDTH,
-        u64::from(n),
-    )?;
+    write_number(&mut columns[WORD_WIDTH..ITEM_WIDTH], NUMBER_WIDTH, n)?;
     Ok(columns)
 }

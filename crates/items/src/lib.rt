@@ -7,7 +7,6 @@
 
 mod item;
 mod job;
-mod number;
 mod patch;
 
 pub use item::{ITEM_WIDTH, ItemKind};

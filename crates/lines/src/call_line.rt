@@ -9,58 +9,47 @@ use items::{ITEM_WIDTH, ItemKind};
 use ring::answers::{Answer, Refusal};
 use tickets::WorkerNo;
 
-// How many bytes a call line has, with its LF.
-pub const CALL_LINE: usize = 45;
-
-// Where the item's columns begin, behind those of the numbers.
+// The item's columns: how many stand before them, those of the numbers, and where they end.
 const ITEM_START: usize = 29;
+
+const ITEM_END: usize = ITEM_START + ITEM_WIDTH;
+
+// How many bytes a call line has, with its LF.
+pub const CALL_LINE: usize = ITEM_END + 1;
 
 fn number_of<I: Copy>(reply: Result<Answer<I>, Refusal>) -> u8
     ensures { result ≡ reply_number reply }
 {
-    match reply {
-        Ok(answer) => answer.number(),
-        Err(refusal) => refusal.number(),
-    }
+    reply.map_or_else(|refusal| refusal.number(), |answer| answer.number())
 }
 
 fn ticket_of<I: Copy>(reply: Result<Answer<I>, Refusal>) -> u64
     ensures { result ≡ reply_ticket reply }
 {
-    let carried = match reply {
-        Ok(answer) => answer.ticket(),
-        Err(_) => None,
-    };
-    match carried {
-        Some(ticket) => ticket.0,
-        None => 0,
-    }
+    reply
+        .ok()
+        .and_then(|answer| answer.ticket())
+        .map_or(0, |ticket| ticket.0)
 }
 
 fn item_of<I: Copy>(reply: Result<Answer<I>, Refusal>) -> Option<I>
     ensures { result ≡ reply_item reply }
 {
-    match reply {
-        Ok(answer) => answer.item(),
-        Err(_) => None,
-    }
+    reply.ok().and_then(|answer| answer.item())
 }
 
 // Whether the call prints a line: assigned and working do not.
 pub fn prints<I: Copy>(reply: Result<Answer<I>, Refusal>) -> bool
     ensures { result ≡ is_printed reply }
 {
-    number_of(reply) >= 2
+    !matches!(reply, Ok(Answer::Assigned | Answer::Working))
 }
 
 // The item's columns, or blanks.
 fn item_columns<I: ItemKind>(item: Option<I>) -> Result<[u8; ITEM_WIDTH], WriteRefusal>
     ensures { result ≡ ok_or (shown I.ItemKind.text item) Range }
 {
-    match item {
-        Some(carried) => carried.columns(),
-        None => Ok([b' '; ITEM_WIDTH]),
-    }
+    item.map_or(Ok([b' '; ITEM_WIDTH]), |carried| carried.columns())
 }
 
 // The numbers of a call line, each with its columns.
@@ -106,7 +95,7 @@ pub fn write_call<I: ItemKind>(
     let columns = item_columns(item_of(reply))?;
     let fields = call_fields(call, worker, reply);
     write_row(&mut buffer[0..ITEM_START], &fields)?;
-    buffer[ITEM_START..CALL_LINE - 1].copy_from_slice(&columns);
-    buffer[CALL_LINE - 1] = b'\n';
+    buffer[ITEM_START..ITEM_END].copy_from_slice(&columns);
+    buffer[ITEM_END] = b'\n';
     Ok(())
 }

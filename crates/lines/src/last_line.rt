@@ -1,19 +1,13 @@
 // The last line of a report.
 ghost use Rattle.std.specs.Prelude.{◌≡◌};
 ghost use Rattle.columns.specs.Row.{line_written};
-ghost use Rattle.lines.specs.LastLine.{bit, last_fields, last_mark};
+ghost use Rattle.lines.specs.LastLine.{last_fields, last_mark};
 
 use columns::{Field, WriteRefusal, write_line};
 use ring::control::Control;
 
 // How many bytes the last line has, with its LF.
 pub const LAST_LINE: usize = 35;
-
-fn flag(on: bool) -> u64
-    ensures { result ≡ bit on }
-{
-    if on { 1 } else { 0 }
-}
 
 // Writes `=`, Head, Tail, Closed as 0 or 1, the number of occupied cells, and an LF.
 pub fn write_last(buffer: &mut [u8], control: &Control, occupied: usize) -> Result<(), WriteRefusal>
@@ -30,7 +24,7 @@ pub fn write_last(buffer: &mut [u8], control: &Control, occupied: usize) -> Resu
         },
         Field {
             width: 2,
-            number: flag(control.closed),
+            number: u64::from(control.closed),
         },
         Field {
             width: 5,

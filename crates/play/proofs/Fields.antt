@@ -1,6 +1,7 @@
 -- Fields of a line and the numbers they write.
-use Rattle.std.proofs.Common.{◌≡◌, ℕ, ◌+◌, ◌-◌, ◌^◌, ◌<◌, ◌≤◌, List, [], ◌∷◌, ◌++◌, length, get_or, take, drop, pos, Some, Ok, Err, Result, sym, refl, ap, ◌∙◌, arith}
+use Rattle.std.proofs.Common.{◌≡◌, ℕ, ◌+◌, ◌-◌, ◌^◌, ◌<◌, ◌≤◌, List, [], ◌∷◌, ◌++◌, length, get_or, take, drop, pos, Some, None, Ok, Err, Result, sym, refl, ap, ◌∙◌, arith}
 use Rattle.std.proofs.lemmas.List.{length-drop, length-take-le, take_all, drop-drop, take-append-drop}
+use Rattle.std.specs.Result.{result_ok}
 use Rattle.std.proofs.lemmas.Bool.Decides.{nat_tests}
 use Rattle.columns.specs.declared.refusal.ReadRefusal.{ReadRefusal}
 use Rattle.columns.specs.Faults.{at_column}
@@ -55,3 +56,12 @@ last_part m n cs h = take_all n (drop m cs) (omega (arith, length-drop m cs))
 
 pub never_both : {A T E : Type 0} (e : E) (x : T) → ◌≡◌ {A = Result T E} (Err e) (Ok x) → A
 never_both e x p = clash (cc)
+
+-- a value that is kept where its error is let go
+pub told_ok : {T E : Type 0} (r : Result T E) (x : T) → result_ok r ≡ Some x → r ≡ Ok x
+told_ok (Ok y) x e = let same : y ≡ x = cc in ap Ok same
+told_ok (Err f) x e = clash (cc)
+
+pub told_none : {T E : Type 0} (r : Result T E) → result_ok r ≡ None → (f : E) × (r ≡ Err f)
+told_none (Ok y) e = clash (cc)
+told_none (Err f) e = (f, refl)

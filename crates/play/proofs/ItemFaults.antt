@@ -1,6 +1,6 @@
 -- A fault of an item stands at one of the item's columns.
-use Rattle.std.proofs.Common.{◌≡◌, ℕ, ◌≤◌, Bool, true, false, cond, List, take, drop, ℤ, Some, Ok, Err, Result, ap, arith}
-use Rattle.std.specs.Result.{result_err}
+use Rattle.std.proofs.Common.{◌≡◌, ℕ, ◌≤◌, Bool, true, false, cond, List, take, drop, ℤ, Some, Ok, Err, Result, MatchResult, ap, subst, arith}
+use Rattle.std.specs.Result.{result_err, IsOkAnd}
 use Rattle.std.specs.Str.{bytes_eq}
 use Rattle.columns.specs.declared.refusal.ReadRefusal.{ReadRefusal}
 use Rattle.columns.specs.declared.refusal.ReadRefusal.TheVariants.{Form}
@@ -64,3 +64,8 @@ job_placed cs = word_placed (take word_width cs) (take number_width (drop word_w
 pub placed_fault : {X : Type 0} (r : Result X ColumnFault) (f : ColumnFault) → result_err r ≡ Some f → Placed r → f.column ≤ 15
 placed_fault (Ok x) f e h = clash (cc)
 placed_fault (Err g) f e (there k h) = let same : k ≡ f = cc in omega (arith, ap (λ (x : ColumnFault). x.column) same)
+
+-- a fault that is passed on is the reading's
+pub passed_fault : {X Y : Type 0} (r : Result X ColumnFault) (m : Result Y ColumnFault) (P : X → Y → Type 0) (f : ColumnFault) → MatchResult r (λ x. IsOkAnd m (P x)) (λ e. m ≡ Err e) → m ≡ Err f → result_err r ≡ Some f
+passed_fault (Ok x) m P f h e = absurd (subst (λ (t : Result _ ColumnFault). IsOkAnd t (P x)) e h)
+passed_fault (Err g) m P f h e = let same : g ≡ f = cc in ap Some same

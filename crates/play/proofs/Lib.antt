@@ -12,3 +12,4 @@ pub mod NextOrder
 pub mod ItemKinds
 pub mod WholePlay
 pub mod ItemFaults
+pub mod KindNumbers

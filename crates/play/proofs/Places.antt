@@ -1,5 +1,5 @@
 -- The ways out of the search for a fault, and the way on, by places of the body.
-use Rattle.std.proofs.Common.{◌≡◌, ℕ, suc, ◌+◌, ◌-◌, ◌<◌, ◌≤◌, List, length, get_or, take, drop, Some, Ok, Err, Result, sym, refl, ap, ◌∙◌, subst, arith}
+use Rattle.std.proofs.Common.{◌≡◌, ℕ, suc, ◌+◌, ◌-◌, ◌<◌, ◌≤◌, List, length, get_or, take, drop, Some, Ok, Err, sym, ap, ◌∙◌, subst, arith}
 use Rattle.std.proofs.lemmas.List.{drop-drop}
 use Rattle.play.specs.declared.fault.PlayFault.{PlayFault}
 use Rattle.play.specs.declared.fault.PlayFault.TheVariants as play_fault
@@ -10,9 +10,7 @@ use Rattle.play.specs.declared.letter.OrderLetter.{OrderLetter}
 use Rattle.play.specs.declared.letter.Letter.TheVariants.{Order}
 use Rattle.play.specs.Lines.{LF}
 use Rattle.play.specs.Letters.{letter_of, width_of}
-use Rattle.play.specs.declared.order.Order.{Order as TheOrder}
-use Rattle.play.specs.Faults.{at_line}
-use Rattle.play.specs.Orders.{PlainOrder, plain, heard, order_reading}
+use Rattle.play.specs.Orders.{PlainOrder, order_reading}
 use Rattle.play.specs.Play.{order_letter}
 use Rattle.play.proofs.FirstLine.{fault_in, letter_fault, cut_fault, column_fault, goes_on}
 use Rattle.play.proofs.Cuts.{Clear, byte_at, first_byte, left, unbroken, stops, breaks, runs_on}
@@ -67,12 +65,3 @@ module _ (items : ItemChoice) (n : ℕ) (body : List ℕ) (at : ℕ) (inside : a
           (ap (λ m. order_reading items k (take m (drop at body))) (sym wide) ∙ e)
           ∙ ap (λ x. fault_in items x (drop (suc (width_of (Order k))) (drop at body))) m
           ∙ ap (fault_in items (n + 1)) (drop-drop (suc (width_of (Order k))) at body ∙ ap (λ x. drop x body) z)
-
--- what a line's reading says, once its number is added
-pub line_ok : (r : Result TheOrder LineFault) (n : ℕ) (o : TheOrder) → at_line r n ≡ Ok o → heard r ≡ Ok (plain o)
-line_ok (Ok p) n o e = let same : p ≡ o = cc in ap (λ q. Ok (plain q)) same
-line_ok (Err f) n o e = let no : ◌≡◌ {A = ℕ} 0 1 = cc in absurd (omega arith)
-
-pub line_err : (r : Result TheOrder LineFault) (n : ℕ) (p : PlayFault) → at_line r n ≡ Err p → (f : LineFault) × (heard r ≡ Err f) × (play_fault.Line n f ≡ p)
-line_err (Ok o) n p e = let no : ◌≡◌ {A = ℕ} 0 1 = cc in absurd (omega arith)
-line_err (Err f) n p e = (f, refl, cc)

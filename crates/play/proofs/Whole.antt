@@ -1,7 +1,11 @@
 -- When the first line has just so many columns and an LF behind them, by the bytes.
-use Rattle.std.proofs.Common.{◌≡◌, ℕ, zero, suc, ◌<◌, true, false, eqb, List, [], ◌∷◌, ◌++◌, length, get_or, take, sym, refl, ap, ◌∙◌, subst, inl, inr, append_assoc, arith}
+use Rattle.std.proofs.Common.{◌≡◌, ℕ, zero, suc, ◌<◌, true, false, eqb, List, [], ◌∷◌, ◌++◌, length, get_or, take, Bool, Some, sym, refl, ap, ◌∙◌, subst, inl, inr, append_assoc, arith}
 use Rattle.std.proofs.lemmas.List.{length-append, length-take-le, get_or_append_left, get_or_at}
-use Rattle.std.proofs.lemmas.Bool.{cases_eq, cases_Bool, cond-true, cond-false, eq-eqb, ne_eqb, eqb-true, and_from, and_parts, both_ways}
+use Rattle.std.specs.Prelude.{position}
+use Rattle.std.specs.List.{position_or_len}
+use Rattle.std.specs.Option.{option_eq}
+use Rattle.std.proofs.lemmas.List.Sums.{position_or_len_is, fails_before_first, passes_at_first}
+use Rattle.std.proofs.lemmas.Bool.{cases_eq, cases_lt, lt-ltb, le-ltb, cases_Bool, cond-true, cond-false, eq-eqb, ne_eqb, eqb-true, and_from, and_parts, both_ways}
 use Rattle.play.specs.Lines.{LF, Line, in_front, lines_of}
 use Rattle.play.specs.Play.{first_whole}
 use Rattle.play.proofs.Lines.{Unbroken, lines_text, end_text, text_of_lines, first_ends}
@@ -57,3 +61,25 @@ shape_whole w bs s =
 
 pub not_whole : (w : ℕ) (bs : List ℕ) → (WholeShape w bs → ⊥) → first_whole w (lines_of bs) ≡ false
 not_whole w bs h = elim (cases_Bool (first_whole w (lines_of bs))) [ inl e ↦ absurd (h (whole_shape w bs e)) | inr e ↦ e ]
+
+-- by the place of the first LF
+pub whole_by_end : (w : ℕ) (bs : List ℕ) → option_eq eqb (position (λ b. eqb b LF) bs) (Some w) ≡ first_whole w (lines_of bs)
+whole_by_end w bs =
+    let p : ℕ → Bool = λ b. eqb b LF in
+    let i = position_or_len p bs in
+    let there : WholeShape w bs → i ≡ w = λ s. position_or_len_is p bs w 0 (omega (arith, s.room)) (λ k h. ne_eqb (get_or bs k 0) LF (s.clear k h)) (λ h. eq-eqb (get_or bs w 0) LF s.ends) in
+    elim (cases_lt i (length bs)) [
+      | inl some ↦
+          ap (λ o. option_eq eqb o (Some w)) (cond-true _ _ _ (lt-ltb i (length bs) some))
+          ∙ elim (cases_eq i w) [
+            | inl e ↦ eq-eqb i w e ∙ sym (shape_whole w bs (record {
+              room = omega arith;
+              ends = ap (λ k. get_or bs k 0) (sym e) ∙ eqb-true (get_or bs i 0) LF (passes_at_first p bs 0 some);
+              clear = λ k h here. never (sym (fails_before_first p bs k 0 (omega arith)) ∙ eq-eqb (get_or bs k 0) LF here);
+            }))
+            | inr ne ↦ ne_eqb i w ne ∙ sym (not_whole w bs (λ s. ne (there s)))
+          ]
+      | inr none ↦ ap (λ o. option_eq eqb o (Some w)) (cond-false _ _ _ (le-ltb i (length bs) none)) ∙ sym (not_whole w bs (λ s. let e = there s in let r = s.room in omega arith))
+    ] where
+      never : false ≡ true → ⊥
+      never e = cc

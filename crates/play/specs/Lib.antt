@@ -2,6 +2,7 @@ pub mod Lines
 pub mod Letters
 pub mod Faults
 pub mod Orders
+pub mod Kinds
 pub mod Play
 pub mod Text
 pub mod Promise

@@ -30,6 +30,7 @@ pub(crate) fn first_fault(items: ItemChoice, body: &[u8]) -> Option<PlayFault>
     requires { length body.now ≤ 60000 }
     ensures { result ≡ fault_part (order_lines items 2 (lines_of body.now)) }
 {
+    // the form that the project fixed: nested loops over lines and columns, left by a label with the fault as the value
     let mut at = 0;
     let mut line = 2;
     let fault = 'reading: loop {
@@ -53,8 +54,8 @@ pub(crate) fn first_fault(items: ItemChoice, body: &[u8]) -> Option<PlayFault>
         if end == body.len() || body[end] != LF {
             break Some(cut);
         }
-        if let Err(fault) = read_order(items, letter, &body[at..end]).at(line) {
-            break Some(fault);
+        if let Err(fault) = read_order(items, letter, &body[at..end]) {
+            break Some(PlayFault::Line { line, fault });
         }
         at = end + 1;
         line += 1;

@@ -1,8 +1,7 @@
 // What is wrong with a line and with a play. A fault of columns is passed up through both.
-ghost use Rattle.std.specs.Prelude.{◌≡◌, ℕ, Result};
+ghost use Rattle.std.specs.Prelude.{◌≡◌};
 ghost use Rattle.play.specs.declared.fault.LineFault.TheVariants.{Column};
-ghost use Rattle.play.specs.declared.fault.PlayFault.{PlayFault};
-ghost use Rattle.play.specs.Faults.{place_of, at_line};
+ghost use Rattle.play.specs.Faults.{place_of};
 
 use columns::ColumnFault;
 
@@ -22,7 +21,7 @@ pub enum PlayFault {
     Line { line: usize, fault: LineFault },
 }
 
-// What a fault line prints.
+// What a fault line prints. Layer and number are numbers: one layer's number is the refusal's of columns, passed on.
 #[derive(Clone, Copy, PartialEq, Eq, Debug)]
 pub struct Place {
     pub layer: u16,
@@ -78,33 +77,6 @@ impl PlayFault {
                     column: found.column,
                 },
             },
-        }
-    }
-}
-
-// Adds the line's number to a fault on its way up.
-pub trait AtLine: Sized {
-    // What was to be read.
-    type Value;
-
-    // what was read, or the fault with the line's number
-    ghost placed: { Self → ℕ → Result Self.Value PlayFault };
-
-    // The same, with the line's number in its fault.
-    fn at(self, line: usize) -> Result<Self::Value, PlayFault>
-        ensures { result ≡ placed self line };
-}
-
-// Whatever a line was read as.
-impl<T> AtLine for Result<T, LineFault> {
-    type Value = T;
-
-    ghost placed = { at_line };
-
-    fn at(self, line: usize) -> Result<T, PlayFault> {
-        match self {
-            Ok(found) => Ok(found),
-            Err(fault) => Err(PlayFault::Line { line, fault }),
         }
     }
 }

@@ -1,45 +1,48 @@
 // The columns of a line, read field by field from the left: a header, or an order.
-ghost use Rattle.std.specs.Prelude.{◌≡◌, ℕ, ◌≤◌, length, take, drop, IfOk};
+ghost use Rattle.std.specs.Prelude.{◌≡◌, ◌-◌, ◌≤◌, length, take, drop};
+ghost use Rattle.columns.specs.Faults.{at_column};
 ghost use Rattle.play.specs.Letters.{width_of};
 ghost use Rattle.play.specs.declared.letter.Letter.TheVariants.{Order as order_letter};
-ghost use Rattle.play.specs.Orders.{field_reading, header_reading, ring_choice, item_choice, item_check, order_reading, heard};
+ghost use Rattle.play.specs.Kinds.{KindRead};
+ghost use Rattle.play.specs.Orders.{field_reading, header_reading, item_check, order_reading, heard};
 
 use crate::fault::*;
 use crate::header::*;
 use crate::letter::*;
 use crate::order::Order;
-use columns::{ColumnFault, at_column, read_unsigned};
+use columns::{ColumnFault, ColumnNumber, ReadRefusal, at_column, read_number};
 use items::{ITEM_WIDTH, ItemKind, Job, Patch};
 use tickets::WorkerNo;
 
+// How many columns of an E line stand before its item.
+const ITEM_START: usize = 5;
+
 // The number in the columns `first` to `last`, counted from 1.
-fn field(line: &[u8], first: usize, last: usize, least: u64, most: u64) -> Result<u64, ColumnFault>
+fn field<N: ColumnNumber>(
+    line: &[u8],
+    first: usize,
+    last: usize,
+    least: N,
+    most: N,
+) -> Result<N, ColumnFault>
     requires { (1 ≤ first) × ((first ≤ last) × (last ≤ length line.now)) }
-    ensures value { result ≡ field_reading first last least most line.now }
-    ensures bound { IfOk result (λ n. (least ≤ n) × (n ≤ most)) }
+    ensures { result ≡ at_column first (N.reading least most (take (last - (first - 1)) (drop (first - 1) line.now))) }
 {
     let start = first - 1;
-    at_column(first, read_unsigned(&line[start..last], least, most))
+    at_column(first, read_number(&line[start..last], least, most))
 }
 
-fn chosen_ring(n: u64) -> RingChoice
-    ensures { result ≡ ring_choice n }
+// The kind whose number stands in the columns `first` to `last`.
+fn kind<K: TryFrom<u16, Error = ReadRefusal>>(
+    line: &[u8],
+    first: usize,
+    last: usize,
+) -> Result<K, ColumnFault>
+    requires { (1 ≤ first) × ((first ≤ last) × (last ≤ length line.now)) }
+    ensures { KindRead K.try_from_gives first (field_reading first last 0 65535 line.now) result }
 {
-    if n == 1 {
-        RingChoice::Crq
-    } else {
-        RingChoice::Prq
-    }
-}
-
-fn chosen_items(n: u64) -> ItemChoice
-    ensures { result ≡ item_choice n }
-{
-    if n == 1 {
-        ItemChoice::Patch
-    } else {
-        ItemChoice::Job
-    }
+    let number = field(line, first, last, 0, u16::MAX)?;
+    at_column(first, K::try_from(number))
 }
 
 // The header that the columns of an R line say.
@@ -47,15 +50,15 @@ pub(crate) fn read_header(line: &[u8]) -> Result<Header, LineFault>
     requires { length line.now ≡ 14 }
     ensures { result ≡ header_reading line.now }
 {
-    let ring = field(line, 2, 3, 1, 2)?;
+    let ring = kind(line, 2, 3)?;
     let cells = field(line, 4, 8, 1, 1024)?;
     let workers = field(line, 9, 12, 1, 64)?;
-    let items = field(line, 13, 14, 1, 2)?;
+    let items = kind(line, 13, 14)?;
     Ok(Header {
-        ring: chosen_ring(ring),
-        cells: cells as u32,
-        workers: workers as u32,
-        items: chosen_items(items),
+        ring,
+        cells,
+        workers,
+        items,
     })
 }
 
@@ -64,27 +67,21 @@ fn item_columns(line: &[u8]) -> &[u8; ITEM_WIDTH]
     requires { length line.now ≡ 20 }
     ensures { result.now ≡ take 15 (drop 5 line.now) }
 {
-    match line[5..20].split_first_chunk() {
-        Some((columns, _)) => columns,
-        None => unreachable(),
-    }
+    line[ITEM_START..].first_chunk().unwrap()
 }
 
 // Whether the columns hold an item of the play's kind; a fault's column is the line's.
 fn check_item(items: ItemChoice, columns: &[u8; ITEM_WIDTH]) -> Result<(), ColumnFault>
     ensures { result ≡ item_check items columns.now }
 {
-    let fault = match items {
-        ItemChoice::Patch => Patch::read(columns).err(),
-        ItemChoice::Job => Job::read(columns).err(),
+    let read = match items {
+        ItemChoice::Patch => Patch::read(columns).map(|_| ()),
+        ItemChoice::Job => Job::read(columns).map(|_| ()),
     };
-    match fault {
-        None => Ok(()),
-        Some(found) => Err(ColumnFault {
-            column: found.column + 5,
-            refusal: found.refusal,
-        }),
-    }
+    read.map_err(|fault| ColumnFault {
+        column: fault.column + ITEM_START,
+        refusal: fault.refusal,
+    })
 }
 
 // The order that the columns of an E, D or S line say.
@@ -96,7 +93,7 @@ pub(crate) fn read_order<'a>(
     requires { length line.now ≡ width_of (order_letter letter) }
     ensures { heard result ≡ order_reading items letter line.now }
 {
-    let worker = WorkerNo(field(line, 2, 5, 1, 64)? as u16);
+    let worker = WorkerNo(field(line, 2, 5, 1, 64)?);
     match letter {
         OrderLetter::Enqueue => {
             let columns = item_columns(line);
@@ -106,10 +103,7 @@ pub(crate) fn read_order<'a>(
         OrderLetter::Dequeue => Ok(Order::Dequeue { worker }),
         OrderLetter::Steps => {
             let count = field(line, 6, 9, 1, 9999)?;
-            Ok(Order::Steps {
-                worker,
-                count: count as u16,
-            })
+            Ok(Order::Steps { worker, count })
         }
     }
 }

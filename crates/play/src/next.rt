@@ -1,5 +1,7 @@
 // The orders of a body, one after the other.
-ghost use Rattle.play.specs.Promise.{FirstOrder};
+ghost use Rattle.std.specs.Prelude.{length};
+ghost use Rattle.std.specs.Iterator.{at_most};
+ghost use Rattle.play.specs.Promise.{FirstOrder, OrderGiven};
 
 use crate::body::{LF, open_order};
 use crate::header::ItemChoice;
@@ -18,22 +20,37 @@ pub struct Next<'a> {
 pub fn next_order<'a>(items: ItemChoice, rest: &'a [u8]) -> Option<Next<'a>>
     ensures { FirstOrder items rest.now result }
 {
-    if rest.len() == 0 {
-        return None;
-    }
+    let first = rest.first()?;
     // a fault's line does not matter here: a fault is no order
-    let Ok(letter) = open_order(char::from(rest[0]), 1) else {
-        return None;
-    };
+    let letter = open_order(char::from(*first), 1).ok()?;
     let width = Letter::Order(letter).width();
     if rest.len() <= width || rest[width] != LF {
         return None;
     }
-    match read_order(items, letter, &rest[0..width]) {
-        Ok(order) => Some(Next {
-            order,
-            rest: &rest[width + 1..],
-        }),
-        Err(_) => None,
+    let order = read_order(items, letter, &rest[0..width]).ok()?;
+    Some(Next {
+        order,
+        rest: &rest[width + 1..],
+    })
+}
+
+// The orders of a body, from the first on, up to what is no order.
+#[derive(Clone, Copy)]
+pub struct Orders<'a> {
+    pub items: ItemChoice,
+    pub rest: &'a [u8],
+}
+
+impl<'a> Iterator for Orders<'a> {
+    type Item = Order<'a>;
+
+    ghost next_gives = { OrderGiven };
+
+    ghost remaining = { λ s. at_most (length s.rest.now) };
+
+    fn next(&mut self) -> Option<Order<'a>> {
+        let next = next_order(self.items, self.rest)?;
+        self.rest = next.rest;
+        Some(next.order)
     }
 }

@@ -1,7 +1,7 @@
 // A whole play: its header, and the lines behind it.
-ghost use Rattle.std.specs.Prelude.{◌≡◌, ℕ, ◌<◌, ◌≤◌, T, length, OnOk};
+ghost use Rattle.std.specs.Prelude.{◌≡◌, ℕ, ◌<◌, ◌≤◌, ◌==◌, T, length, position, OnOk};
 ghost use Rattle.play.specs.Letters.{letter_of};
-ghost use Rattle.play.specs.Lines.{lines_of};
+ghost use Rattle.play.specs.Lines.{LF, lines_of};
 ghost use Rattle.play.specs.Promise.{PlayRead};
 ghost use Rattle.play.specs.Text.{TextLaw};
 ghost use Rattle.play.specs.Play.{first_letter, first_whole, first_header};
@@ -39,20 +39,19 @@ fn open_first(letter: char) -> Result<(), PlayFault>
     }
 }
 
+// Where the first line ends.
+fn line_end(bytes: &[u8]) -> Option<usize>
+    ensures { result ≡ position (λ b. b == LF) bytes.now }
+{
+    bytes.iter().position(|byte| *byte == LF)
+}
+
 // Whether the first line has just `width` columns, with an LF behind them.
 fn is_whole(bytes: &[u8], width: usize) -> bool
     ensures value { result ≡ first_whole width (lines_of bytes.now) }
     ensures room { T result → width < length bytes.now }
 {
-    if width >= bytes.len() || bytes[width] != LF {
-        return false;
-    }
-    for column in 0..width {
-        if bytes[column] == LF {
-            return false;
-        }
-    }
-    true
+    line_end(bytes) == Some(width)
 }
 
 // The header that the first line says.
@@ -71,8 +70,7 @@ fn read_first_line(bytes: &[u8]) -> Result<Header, PlayFault>
             fault: LineFault::Cut,
         });
     }
-    let header = read_header(&bytes[0..width]).at(1)?;
-    Ok(header)
+    read_header(&bytes[0..width]).map_err(|fault| PlayFault::Line { line: 1, fault })
 }
 
 // Reads a whole play: its header and body, or its first fault in line order.
@@ -85,6 +83,7 @@ pub fn read_play<'a>(bytes: &'a [u8]) -> Result<Play<'a>, PlayFault>
     }
     let header = read_first_line(bytes)?;
     let body = &bytes[HEADER_LINE..];
+    // a match, not `map_or`: the fault comes first, before the play that it rules out
     match first_fault(header.items, body) {
         Some(fault) => Err(fault),
         None => Ok(Play { header, body }),
