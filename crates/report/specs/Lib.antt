@@ -6,3 +6,4 @@ pub mod RunBooks
 pub mod OrderBooks
 pub mod Report
 pub mod Fits
+pub mod Playing
