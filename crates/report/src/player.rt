@@ -63,7 +63,8 @@ fn stops_at<I: Copy>(reply: Result<Answer<I>, Refusal>) -> bool
 }
 
 impl<'m, I: ItemKind, K: RingKind<I>> Player<'m, I, K> {
-    // Makes one call and prints its line; says whether an S order stops after it.
+    // Makes one call and prints its line; says whether an S order stops after it. There is room for its number, less of it
+    // at each call, so that no field can promise it.
     fn perform(&mut self, call: Call<I>) -> Result<bool, ReportError>
         requires { self.old.calls < 1000000000 }
         ensures { Ran result (λ stop. (playing self.new ≡ performed I.ItemKind.text K.RingKind.step (playing self.old) call) × (stop ≡ stops (called K.RingKind.step (table_of self.old.table) call).answer)) (performed I.ItemKind.text K.RingKind.step (playing self.old) call) }

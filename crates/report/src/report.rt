@@ -21,7 +21,7 @@ use ring::kind::RingKind;
 use ring::table::*;
 use std::alloc::{AllocError, Global};
 
-// The fault line of a play that has one.
+// The fault line of a play that has one. A line of its own width and writer; so are the two others that are printed.
 fn report_fault(heap: Global, fault: PlayFault) -> Result<Vec<u8>, ReportError>
     ensures { Reported result (fault_report fault) }
 {
@@ -58,7 +58,7 @@ fn play_on<I: ItemKind, K: RingKind<I>>(
     )
 }
 
-// A play on the ring and with the items that its header names.
+// A play on the ring and with the items that its header names. A match: a kind as a `dyn` value has no rows that a clause can name.
 fn play_chosen(heap: Global, header: Header, body: &[u8]) -> Result<Vec<u8>, ReportError>
     requires range { HeaderFits header }
     requires short { length body.now ≤ 60000 }
