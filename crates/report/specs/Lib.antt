@@ -7,3 +7,4 @@ pub mod OrderBooks
 pub mod Report
 pub mod Fits
 pub mod Playing
+pub mod Message

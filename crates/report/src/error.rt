@@ -1,6 +1,7 @@
 // Why a report cannot be made.
-ghost use Rattle.std.specs.Prelude.{◌≡◌};
+ghost use Rattle.std.specs.Prelude.{◌≡◌, Some};
 ghost use Rattle.report.specs.declared.error.ReportError.TheVariants.{Memory, Wide};
+ghost use Rattle.report.specs.Message.{message};
 
 use columns::WriteRefusal;
 use std::alloc::AllocError;
@@ -27,11 +28,13 @@ impl From<WriteRefusal> for ReportError {
     ghost from_gives = { λ e r. r ≡ Wide };
 
     fn from(_refusal: WriteRefusal) -> ReportError {
-        ReportError::Wide
+        Self::Wide
     }
 }
 
 impl fmt::Display for ReportError {
+    ghost output = { λ e. Some (message e) };
+
     fn fmt<W: fmt::Write>(&self, f: &mut fmt::Formatter<W>) -> fmt::Result {
         match self {
             ReportError::Memory => write!(f, "there is not enough memory"),

@@ -110,7 +110,8 @@ impl<'m, I: ItemKind, K: RingKind<I>> Player<'m, I, K> {
         }
     }
 
-    // Plays the orders of a body, one after the other, as the first calls of the player.
+    // Plays the orders of a body, one after the other, as the player's first calls. `Play` has open fields, which a caller may
+    // fill, so that it cannot promise how long its body is.
     pub(crate) fn play_body(&mut self, items: ItemChoice, body: &[u8]) -> Result<(), ReportError>
         requires new { self.old.calls ≡ 0 }
         requires short { length body.now ≤ 60000 }

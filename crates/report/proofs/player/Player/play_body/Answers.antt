@@ -24,11 +24,6 @@ returns-in_err-play_order g c = λ os e f.
     (failed_on c.in_err-play_order.field-0.0 t (all os s0) c.in_err-play_order.ensures.ran
     (λ h. ap (λ (x : Running g.row.I.Denot). x.written) (sym k.3 ∙ ap (λ l. all l s) front.are) ∙ orders_unwritten g.I.ItemKind.text g.I.ItemKind.reading g.K.RingKind.step front.others t h))
 
-pub loop-next-smaller : goal.loop-next-smaller
-loop-next-smaller g c =
-    let said = c.in-Some.ensures in
-    omega (arith, order_shorter (plain c.in-Some.next.order) c.loop-next.rest.now c.in-Some.next.rest.now said.1)
-
 pub loop-next-preserved : goal.loop-next-preserved
 loop-next-preserved g c =
     let said = c.in-Some.ensures in

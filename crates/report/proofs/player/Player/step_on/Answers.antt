@@ -1,6 +1,6 @@
 -- By one step more of the definition.
 use Rattle.std.proofs.Common.{◌≡◌, ◌+◌, ◌-◌, ◌<◌, sym, ap, ◌∙◌, arith}
-use Rattle.std.proofs.lemmas.Result.{err_from_is_err_and, IfOk-from_err}
+use Rattle.std.proofs.lemmas.Result.{err_from_is_err_and}
 use Rattle.ring.specs.declared.call.Call.TheVariants.{Step}
 use Rattle.report.specs.Playing.{playing}
 use Rattle.report.specs.Running.{Running, performed, stepping}
@@ -8,8 +8,8 @@ use Rattle.report.proofs.Errors.{failed_on}
 use Rattle.report.proofs.Stepping.{steps_on, steps_fail}
 use Rattle.report.proofs.player.Player.step_on.Goals as goal
 
-pub returns-in_err-perform : goal.returns-in_err-perform
-returns-in_err-perform g c =
+pub returns-in_err-perform-clause-ran : goal.returns-in_err-perform-clause-ran
+returns-in_err-perform-clause-ran g c =
     let p = err_from_is_err_and c.from_residual.result c.from_residual.ensures.1 in
     let text = g.I.ItemKind.text in
     let step = g.K.RingKind.step in
@@ -17,12 +17,9 @@ returns-in_err-perform g c =
     let n = c.args.count - c.loop-step._step in
     let more : 0 < n = omega arith in
     let s = playing c.loop-step.self in
-    record {
-      ran = rw (p.1, p.2)
-          (failed_on c.in_err-perform.field-0.0 (performed text step s (Step w)) (stepping text step w c.args.count (playing c.args.self.now)) c.in_err-perform.ensures
-          (λ e. ap (λ (x : Running g.row.I.Denot). x.written) (sym c.loop-step.invariant.1) ∙ steps_fail text step w n s more e));
-      few = IfOk-from_err c.from_residual.result _ c.from_residual.ensures.0;
-    }
+    rw (p.1, p.2)
+    (failed_on c.in_err-perform.field-0.0 (performed text step s (Step w)) (stepping text step w c.args.count (playing c.args.self.now)) c.in_err-perform.ensures
+    (λ e. ap (λ (x : Running g.row.I.Denot). x.written) (sym c.loop-step.invariant.1) ∙ steps_fail text step w n s more e))
 
 pub loop-step-preserved : goal.loop-step-preserved
 loop-step-preserved g c =
