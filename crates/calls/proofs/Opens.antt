@@ -13,7 +13,7 @@ use Rattle.ring.proofs.Equals.{clash}
 use Rattle.ring.proofs.Books.{new_sound}
 use Rattle.engine.specs.Engine.{counters}
 use Rattle.calls.specs.Promise.{table}
-use Rattle.calls.specs.Laying.{Laying, counters_of, ring_fits, crew_fits, unlaid, laying, Opens}
+use Rattle.calls.specs.Laying.{Laying, counters_of, ring_fits, crew_fits, laying, Opens}
 
 range_from : (a b : ℕ) → (leb 1 a && leb a b) ≡ true → (1 ≤ a) × (a ≤ b)
 range_from a b e = let p = and_parts (leb 1 a) (leb a b) e in (leb-true 1 a p.0, leb-true a b p.1)
@@ -39,20 +39,6 @@ module _ {I : Type 0} where
       ((p.0, p.1, q.0, q.1), λ i. record { counters = k i; cells = (f i).cells; workers = (f i).workers }))
       (λ _ f. never Crew (ap (λ (x : Laying I). x.control) f)))
       (λ _ f. never Ring (ap (λ (x : Laying I). x.control) f))
-      e
-
-  unlaid_same : (x y : Refusal) (cs xs : List (Cell I)) (ws ys : List (Worker I)) → at_exit (Err x) cs ws ≡ unlaid xs ys y → (unlaid xs ys y ≡ unlaid xs ys x) × (cs ≡ xs) × (ws ≡ ys)
-  unlaid_same x y cs xs ws ys f =
-      let g : ◌≡◌ {A = Result Counters Refusal} (Err x) (Err y) = ap (λ (z : Laying I). z.control) f in
-      (sym (λ i. record { control = g i; cells = xs; workers = ys }), ap (λ (z : Laying I). z.cells) f, ap (λ (z : Laying I). z.workers) f)
-
-  -- and where it was refused
-  pub laying_refused : (x : Refusal) (cs xs : List (Cell I)) (ws ys : List (Worker I)) → at_exit (Err x) cs ws ≡ laying xs ys → (laying xs ys ≡ unlaid xs ys x) × (cs ≡ xs) × (ws ≡ ys)
-  laying_refused x cs xs ws ys e =
-      cond_both (ring_fits (length xs)) _ _ (λ l. at_exit (Err x) cs ws ≡ l → (l ≡ unlaid xs ys x) × (cs ≡ xs) × (ws ≡ ys))
-      (λ _. cond_both (crew_fits (length ys)) _ _ (λ l. at_exit (Err x) cs ws ≡ l → (l ≡ unlaid xs ys x) × (cs ≡ xs) × (ws ≡ ys)) (λ _ f. never x (sym (ap (λ (z : Laying I). z.control) f)))
-      (λ _ f. unlaid_same x Crew cs xs ws ys f))
-      (λ _ f. unlaid_same x Ring cs xs ws ys f)
       e
 
   pub opens : (r : Result Control Refusal) (cs xs : List (Cell I)) (ws ys : List (Worker I)) → at_exit r cs ws ≡ laying xs ys → Opens r cs ws

@@ -1,5 +1,5 @@
 -- A turn left in memory is the turn in the table; a refusal leaves what was there.
-use Rattle.std.proofs.Common.{◌≡◌, ℕ, ◌-◌, ◌<◌, List, length, get_or, set, Ok, Err, Result, ap, ◌∙◌, subst}
+use Rattle.std.proofs.Common.{◌≡◌, ℕ, ◌-◌, ◌<◌, List, length, get_or, set, Ok, Err, Result, sym, ap, ◌∙◌, subst}
 use Rattle.std.proofs.lemmas.List.{set-get_or, get_or_default}
 use Rattle.tickets.specs.declared.Ticket.{Ticket}
 use Rattle.tickets.specs.declared.WorkerNo.{WorkerNo}
@@ -16,9 +16,10 @@ use Rattle.ring.specs.Table.{Counters, Table, fresh_cell, idle_worker, worker}
 use Rattle.ring.specs.Phases.{engine_side, kind_side}
 use Rattle.ring.specs.Turns.{Turn, Performed, KindStep}
 use Rattle.ring.specs.Rows.{EngineTurn, engine_row}
-use Rattle.ring.specs.Calls.{engine_turned, turned, fitting, row}
+use Rattle.ring.specs.Calls.{engine_turned, turned, fitting, row, stepped}
 use Rattle.engine.specs.Engine.{EnginePerformed}
 use Rattle.calls.specs.Turns.{EngineAt, KindAt}
+use Rattle.calls.specs.Lent.{Admitted}
 
 module _ {I : Type 0} where
   engine_left : (t : Table I) (n : WorkerNo) (x : Result (EngineTurn I) Refusal) (r : Result (Answer I) Refusal) (c : Counters) (ws : List (Worker I)) → EngineAt x t.counters t.workers (n.0 - 1) r c ws
@@ -67,3 +68,33 @@ module _ {I : Type 0} where
       (subst (λ y. Performed (f (get_or ws at d) y) (get_or ws at d) y r w' s') (get_or_default cs k e fresh_cell hk) p)
       in
       record { answer = q.answer; cells = ap (set cs k) q.cell; workers = ap (set ws at) q.worker }
+
+  -- the step of a worker at a row of the engine, and at a row of the kind; what is read past the end does not matter
+  pub engine_done : (step : KindStep I) (t : Table I) (n : WorkerNo) (at : ℕ) (c d : Worker I) (e : EngineRow) (r : Result (Answer I) Refusal) (c' : Counters) (w' : Worker I)
+      → Admitted t n at → (get_or t.workers at c).phase ≡ Engine e
+      → EnginePerformed (fitting (get_or t.workers at d) (engine_side e) (engine_row t.counters (get_or t.workers at d) e)) t.counters (get_or t.workers at d) r c' w'
+      → record { table = record { counters = c'; cells = t.cells; workers = set t.workers at w' }; answer = r } ≡ stepped step t n
+  engine_done step t n at c d e r c' w' h ph p =
+      let q = engine_put (λ w. fitting w (engine_side e) (engine_row t.counters w e)) t.counters c' t.workers at d w' r h.inside p in
+      let here =
+      row_engine step t n (worker t n).phase e r c' (set t.workers at w')
+      (subst (λ a. Engine e ≡ (get_or t.workers a idle_worker).phase) h.index (sym ph ∙ ap (λ w. w.phase) (get_or_default t.workers at c idle_worker h.inside)))
+      (subst (λ a. EngineAt (fitting (get_or t.workers a idle_worker) (engine_side e) (engine_row t.counters (get_or t.workers a idle_worker) e)) t.counters t.workers a r c' (set t.workers at w')) h.index q)
+      in
+      here ∙ sym (h.goes_on (row step t n (worker t n) (worker t n).phase))
+
+  pub kind_done : (step : KindStep I) (t : Table I) (n : WorkerNo) (at j : ℕ) (a b c : Worker I) (e : Cell I) (k : KindRow) (r : Result (Answer I) Refusal) (s' : Cell I) (w' : Worker I)
+      → Admitted t n at → (get_or t.workers at a).phase ≡ Kind k → j ≡ slot t.counters.cells (get_or t.workers at b).ticket → j < length t.cells
+      → Performed (fitting (get_or t.workers at c) (kind_side k) (step t.counters.cells t.counters.head n (get_or t.workers at c) (get_or t.cells j e))) (get_or t.workers at c) (get_or t.cells j e) r w' s'
+      → record { table = record { counters = t.counters; cells = set t.cells j s'; workers = set t.workers at w' }; answer = r } ≡ stepped step t n
+  kind_done step t n at j a b c e k r s' w' h ph o hj p =
+      let one = λ (x : Worker I). get_or_default t.workers at x idle_worker h.inside in
+      let turn : Worker I → Cell I → Result (Turn I) Refusal = λ w s. fitting w (kind_side k) (step t.counters.cells t.counters.head n w s) in
+      let q = kind_put turn t.cells t.workers j at e s' c w' r hj h.inside p in
+      let here =
+      row_kind step t n (worker t n).phase k j r (set t.cells j s') (set t.workers at w')
+      (subst (λ x. Kind k ≡ (get_or t.workers x idle_worker).phase) h.index (sym ph ∙ ap (λ w. w.phase) (one a)))
+      (subst (λ x. j ≡ slot t.counters.cells (get_or t.workers x idle_worker).ticket) h.index (o ∙ ap (λ w. slot t.counters.cells w.ticket) (one b)))
+      (subst (λ x. KindAt (turn (get_or t.workers x idle_worker) (get_or t.cells j fresh_cell)) t.cells t.workers j x r (set t.cells j s') (set t.workers at w')) h.index q)
+      in
+      here ∙ sym (h.goes_on (row step t n (worker t n) (worker t n).phase))

@@ -1,39 +1,29 @@
 // Laying out.
 ghost use Rattle.std.specs.Prelude.{◌≡◌};
-ghost use Rattle.calls.specs.Promise.{table};
-ghost use Rattle.calls.specs.Laying.{counters_of, ring_fits, crew_fits, laying, Opens};
+ghost use Rattle.calls.specs.Laying.{counters_of, laying, Opens};
 
-use crate::fill::fill;
 use ring::answers::*;
 use ring::control::Control;
 use ring::table::*;
 
-// 1 to 1,024 cells.
-fn ring_fits(cells: usize) -> bool
-    ensures { result ≡ ring_fits cells }
-{
-    1 <= cells && cells <= 1024
-}
+// A ring has 1 to this many cells.
+pub const MOST_CELLS: usize = 1024;
 
-// 1 to 64 workers.
-fn crew_fits(workers: usize) -> bool
-    ensures { result ≡ crew_fits workers }
-{
-    1 <= workers && workers <= 64
-}
+// A crew has 1 to this many workers.
+pub const MOST_WORKERS: usize = 64;
 
-// The tests, and then the memory and the control anew. These are the rows alone.
+// The tests, and then the memory and the control anew: the rows alone. The books are shown from them at one place, below.
 fn laid<I: Copy>(cells: &mut [Cell<I>], workers: &mut [Worker<I>]) -> Result<Control, Refusal>
     ensures { record { control = counters_of result; cells = cells.new; workers = workers.new } ≡ laying cells.old workers.old }
 {
-    if !ring_fits(cells.len()) {
+    if !(1..=MOST_CELLS).contains(&cells.len()) {
         return Err(Refusal::Ring);
     }
-    if !crew_fits(workers.len()) {
+    if !(1..=MOST_WORKERS).contains(&workers.len()) {
         return Err(Refusal::Crew);
     }
-    fill(cells, Cell::fresh());
-    fill(workers, Worker::idle());
+    cells.fill(Cell::fresh());
+    workers.fill(Worker::idle());
     Ok(Control {
         cells: cells.len() as u32,
         workers: workers.len() as u32,

@@ -5,9 +5,8 @@
 // Rests on: tickets, ring, engine; the step also on the ring kind that it is given.
 #![tactic(auto)]
 
-pub mod assign;
-mod fill;
-mod guards;
+mod assign;
 pub mod lay_out;
 pub mod occupied;
-pub mod step;
+mod step;
+pub mod table;

@@ -4,7 +4,7 @@ ghost use Rattle.ring.specs.Table.{occupied_cells};
 
 use ring::table::*;
 
-// How many cells have an item.
+// How many cells have an item. A `for` loop over the cells, whose form the project fixed.
 pub fn count_occupied<I: Copy>(cells: &[Cell<I>]) -> usize
     ensures { result ≡ occupied_cells cells.now }
 {

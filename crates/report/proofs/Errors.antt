@@ -1,8 +1,8 @@
 -- What an error says of a run.
-use Rattle.std.proofs.Common.{◌≡◌, ℕ, ◌≤◌, false, List, IfOk, Err, Option, Result, subst}
+use Rattle.std.proofs.Common.{◌≡◌, ℕ, false, List, Err, Option}
 use Rattle.report.specs.declared.error.ReportError.{ReportError}
 use Rattle.report.specs.declared.error.ReportError.TheVariants.{Memory, Wide}
-use Rattle.report.specs.Player.{Failed, Printed, Ran}
+use Rattle.report.specs.Player.{Failed, Printed}
 use Rattle.report.specs.Running.{Running, has_line}
 
 pub print_failed : {I : Type 0} (e : ReportError) (line : Option (List ℕ)) (before after : List ℕ) (s : Running I) → Printed line before after (Err e) → (has_line line ≡ false → s.written ≡ false) → Failed e s
@@ -12,10 +12,3 @@ print_failed Wide line before after s p h = h p
 pub failed_on : {I : Type 0} (e : ReportError) (s t : Running I) → Failed e s → (s.written ≡ false → t.written ≡ false) → Failed e t
 failed_on Memory s t f h = tt
 failed_on Wide s t f h = h f
-
--- the same run under another name
-pub ran_as : {I : Type 0} (r : Result (Unit {0}) ReportError) (a b now : Running I) → a ≡ b → Ran r (λ _. now ≡ a) a → Ran r (λ _. now ≡ b) b
-ran_as r a b now e h = subst (λ x. Ran r (λ _. now ≡ x) x) e h
-
-pub made_under : (r : Result (Unit {0}) ReportError) (n a b : ℕ) → a ≡ b → IfOk r (λ _. n ≤ a) → IfOk r (λ _. n ≤ b)
-made_under r n a b e h = subst (λ x. IfOk r (λ _. n ≤ x)) e h

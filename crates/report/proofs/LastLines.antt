@@ -1,5 +1,5 @@
--- A line that fills its buffer, written or refused.
-use Rattle.std.proofs.Common.{◌≡◌, ℕ, ◌+◌, true, false, cond, ltb, List, [], ◌∷◌, ◌++◌, length, Ok, Err, Result, ap, ◌∙◌, inl, inr, append-nil, arith}
+-- A line that fills its buffer.
+use Rattle.std.proofs.Common.{◌≡◌, ℕ, ◌+◌, true, cond, ltb, List, [], ◌∷◌, ◌++◌, length, Ok, Result, ap, ◌∙◌, inl, inr, append-nil, arith}
 use Rattle.std.proofs.lemmas.List.{length-append, drop_all}
 use Rattle.std.proofs.lemmas.Bool.{cases_Bool, cond-true, cond-false, le-ltb}
 use Rattle.columns.specs.declared.refusal.WriteRefusal.{WriteRefusal}
@@ -21,11 +21,4 @@ module _ (mark : ℕ) (fs : List Field) (buffer after : List ℕ) (room : length
           fits,
         )
         | inr no_fit ↦ let no' = ap (λ x. x.0) (said ∙ wide _ _ ∙ cond-false (row_fits fs) _ _ no_fit) in clash (cc)
-      ]
-
-  pub unfilled : (e : WriteRefusal) → ◌≡◌ {A = Result (Unit {0}) WriteRefusal × List ℕ} (Err e, after) (line_written mark fs buffer) → row_fits fs ≡ false
-  unfilled e said =
-      elim (cases_Bool (row_fits fs)) [
-        | inl fits ↦ let no' = ap (λ x. x.0) (said ∙ wide _ _ ∙ cond-true (row_fits fs) _ _ fits) in clash (cc)
-        | inr no_fit ↦ no_fit
       ]

@@ -6,3 +6,5 @@ pub mod RunBooks
 pub mod OrderBooks
 pub mod Report
 pub mod Fits
+pub mod Playing
+pub mod Message

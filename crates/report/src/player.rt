@@ -1,15 +1,16 @@
 // Plays orders on a table, and prints what each call has to tell.
-ghost use Rattle.std.specs.Prelude.{◌≡◌, ℕ, ◌+◌, ◌<◌, ◌≤◌, true, List, length, OnOk};
+ghost use Rattle.std.specs.Prelude.{◌≡◌, ℕ, ◌+◌, ◌<◌, ◌≤◌, List, length, OnOk};
 ghost use Rattle.ring.specs.Calls.{called};
-ghost use Rattle.calls.specs.Promise.{table};
+ghost use Rattle.calls.specs.Lent.{table_of};
 ghost use Rattle.lines.specs.CallLine.{Reply};
-ghost use Rattle.report.specs.Player.{Body, Printed, Ran, running};
+ghost use Rattle.report.specs.Player.{Body, Printed, Ran};
+ghost use Rattle.report.specs.Playing.{playing};
 ghost use Rattle.report.specs.Running.{all_ordered, caller, most_calls, ordered, performed, printed, stepping, stops};
 ghost use Rattle.play.specs.Orders.{PlainOrder, plain};
 ghost use Rattle.play.specs.Text.{OrdersFit, orders_text};
 
 use crate::error::*;
-use columns::WriteRefusal;
+use calls::table::Table;
 use items::ItemKind;
 use lines::call_line::*;
 use play::header::ItemChoice;
@@ -17,11 +18,17 @@ use play::next::next_order;
 use play::order::Order;
 use ring::answers::*;
 use ring::call::Call;
-use ring::control::Control;
 use ring::kind::RingKind;
-use ring::table::*;
 use sequence::make::make_call;
 use tickets::WorkerNo;
+
+// A table that orders are played on, how many calls were made on it, and what they printed.
+#[derive(Drop)]
+pub(crate) struct Player<'m, I, K> {
+    pub(crate) table: Table<'m, I, K>,
+    pub(crate) calls: u64,
+    pub(crate) out: Vec<u8>,
+}
 
 // Prints the line of a call, if it has one.
 fn print_call<I: ItemKind>(
@@ -36,9 +43,7 @@ fn print_call<I: ItemKind>(
         return Ok(());
     }
     let mut line = [0u8; CALL_LINE];
-    if let Err(_) = write_call(&mut line, call, worker, reply) {
-        return Err(ReportError::Wide);
-    }
+    write_call(&mut line, call, worker, reply)?;
     out.extend_from_slice(&line)?;
     Ok(())
 }
@@ -54,127 +59,69 @@ fn caller_of<I: Copy>(call: Call<I>) -> WorkerNo
 fn stops_at<I: Copy>(reply: Result<Answer<I>, Refusal>) -> bool
     ensures { result ≡ stops reply }
 {
-    match reply {
-        Ok(answer) => answer.ends(),
-        Err(_) => true,
+    reply.map_or(true, |answer| answer.ends())
+}
+
+impl<'m, I: ItemKind, K: RingKind<I>> Player<'m, I, K> {
+    // Makes one call and prints its line; says whether an S order stops after it. There is room for its number, less of it
+    // at each call, so that no field can promise it.
+    fn perform(&mut self, call: Call<I>) -> Result<bool, ReportError>
+        requires { self.old.calls < 1000000000 }
+        ensures { Ran result (λ stop. (playing self.new ≡ performed I.ItemKind.text K.RingKind.step (playing self.old) call) × (stop ≡ stops (called K.RingKind.step (table_of self.old.table) call).answer)) (performed I.ItemKind.text K.RingKind.step (playing self.old) call) }
+    {
+        let reply = make_call(&mut self.table, call);
+        self.calls += 1;
+        print_call(&mut self.out, self.calls, caller_of(call), reply)?;
+        Ok(stops_at(reply))
     }
-}
 
-// Makes one call and prints its line; says whether an S order stops after it.
-fn perform<I: ItemKind, K: RingKind<I>>(
-    kind: &K,
-    control: &mut Control,
-    cells: &mut [Cell<I>],
-    workers: &mut [Worker<I>],
-    calls: &mut u64,
-    out: &mut Vec<u8>,
-    call: Call<I>,
-) -> Result<bool, ReportError>
-    requires { calls.old < 1000000000 }
-    ensures { Ran result (λ stop. (running control.new cells.new workers.new calls.new out.new.items ≡ performed I.ItemKind.text K.RingKind.step (running control.old cells.old workers.old calls.old out.old.items) call) × (stop ≡ stops (called K.RingKind.step (table control.old cells.old workers.old) call).answer)) (performed I.ItemKind.text K.RingKind.step (running control.old cells.old workers.old calls.old out.old.items) call) }
-{
-    let reply = make_call(kind, control, cells, workers, call);
-    *calls += 1;
-    print_call(out, *calls, caller_of(call), reply)?;
-    Ok(stops_at(reply))
-}
-
-// Makes an assignment.
-fn assign<I: ItemKind, K: RingKind<I>>(
-    kind: &K,
-    control: &mut Control,
-    cells: &mut [Cell<I>],
-    workers: &mut [Worker<I>],
-    calls: &mut u64,
-    out: &mut Vec<u8>,
-    call: Call<I>,
-) -> Result<(), ReportError>
-    requires { calls.old < 1000000000 }
-    ensures ran { Ran result (λ _. running control.new cells.new workers.new calls.new out.new.items ≡ performed I.ItemKind.text K.RingKind.step (running control.old cells.old workers.old calls.old out.old.items) call) (performed I.ItemKind.text K.RingKind.step (running control.old cells.old workers.old calls.old out.old.items) call) }
-    ensures few { OnOk result (calls.new ≤ calls.old + 1) }
-{
-    match perform(kind, control, cells, workers, calls, out, call) {
-        Ok(_) => Ok(()),
-        Err(error) => Err(error),
-    }
-}
-
-// Makes at most `count` steps of a worker.
-fn step_on<I: ItemKind, K: RingKind<I>>(
-    kind: &K,
-    control: &mut Control,
-    cells: &mut [Cell<I>],
-    workers: &mut [Worker<I>],
-    calls: &mut u64,
-    out: &mut Vec<u8>,
-    worker: WorkerNo,
-    count: u16,
-) -> Result<(), ReportError>
-    requires { calls.old + count < 1000000000 }
-    ensures ran { Ran result (λ _. running control.new cells.new workers.new calls.new out.new.items ≡ stepping I.ItemKind.text K.RingKind.step worker count (running control.old cells.old workers.old calls.old out.old.items)) (stepping I.ItemKind.text K.RingKind.step worker count (running control.old cells.old workers.old calls.old out.old.items)) }
-    ensures few { OnOk result (calls.new ≤ calls.old + count) }
-{
-    let mut left = count;
-    while left > 0 {
-        left -= 1;
-        let call = Call::Step(worker);
-        if perform(kind, control, cells, workers, calls, out, call)? {
-            return Ok(());
-        }
-    }
-    Ok(())
-}
-
-// Plays one order.
-fn play_order<I: ItemKind, K: RingKind<I>>(
-    kind: &K,
-    control: &mut Control,
-    cells: &mut [Cell<I>],
-    workers: &mut [Worker<I>],
-    calls: &mut u64,
-    out: &mut Vec<u8>,
-    order: Order,
-) -> Result<(), ReportError>
-    requires { calls.old + most_calls (plain order) < 1000000000 }
-    ensures ran { Ran result (λ _. running control.new cells.new workers.new calls.new out.new.items ≡ ordered I.ItemKind.text I.ItemKind.reading K.RingKind.step (plain order.entry) (running control.old cells.old workers.old calls.old out.old.items)) (ordered I.ItemKind.text I.ItemKind.reading K.RingKind.step (plain order.entry) (running control.old cells.old workers.old calls.old out.old.items)) }
-    ensures few { OnOk result (calls.new ≤ calls.old + most_calls (plain order.entry)) }
-{
-    match order {
-        Order::Enqueue { worker, columns } => match I::read(columns) {
-            Ok(item) => {
-                let call = Call::AssignEnqueue(worker, item);
-                assign(kind, control, cells, workers, calls, out, call)
+    // Makes at most `count` steps of a worker.
+    fn step_on(&mut self, worker: WorkerNo, count: u16) -> Result<(), ReportError>
+        requires { self.old.calls + count < 1000000000 }
+        ensures ran { Ran result (λ _. playing self.new ≡ stepping I.ItemKind.text K.RingKind.step worker count (playing self.old)) (stepping I.ItemKind.text K.RingKind.step worker count (playing self.old)) }
+        ensures few { OnOk result (self.new.calls ≤ self.old.calls + count) }
+    {
+        for _step in 0..count {
+            if self.perform(Call::Step(worker))? {
+                return Ok(());
             }
-            Err(_) => Ok(()),
-        },
-        Order::Dequeue { worker } => {
-            let call = Call::AssignDequeue(worker);
-            assign(kind, control, cells, workers, calls, out, call)
         }
-        Order::Steps { worker, count } => {
-            step_on(kind, control, cells, workers, calls, out, worker, count)
-        }
+        Ok(())
     }
-}
 
-// Plays the orders of a body, one after the other.
-pub(crate) fn play_body<I: ItemKind, K: RingKind<I>>(
-    kind: &K,
-    control: &mut Control,
-    cells: &mut [Cell<I>],
-    workers: &mut [Worker<I>],
-    out: &mut Vec<u8>,
-    items: ItemChoice,
-    body: &[u8],
-) -> Result<(), ReportError>
-    requires { length body.now ≤ 60000 }
-    ensures { (os : List PlainOrder) → body.now ≡ orders_text os → OrdersFit items os → Body result control.new cells.new workers.new out.new.items (all_ordered I.ItemKind.text I.ItemKind.reading K.RingKind.step os (running control.old cells.old workers.old 0 out.old.items)) }
-{
-    let mut calls = 0;
-    let mut rest = body;
-    while let Some(next) = next_order(items, rest) {
-        play_order(kind, control, cells, workers, &mut calls, out, next.order)?;
-        rest = next.rest;
+    // Plays one order.
+    fn play_order(&mut self, order: Order) -> Result<(), ReportError>
+        requires { self.old.calls + most_calls (plain order) < 1000000000 }
+        ensures ran { Ran result (λ _. playing self.new ≡ ordered I.ItemKind.text I.ItemKind.reading K.RingKind.step (plain order.entry) (playing self.old)) (ordered I.ItemKind.text I.ItemKind.reading K.RingKind.step (plain order.entry) (playing self.old)) }
+        ensures few { OnOk result (self.new.calls ≤ self.old.calls + most_calls (plain order.entry)) }
+    {
+        match order {
+            Order::Enqueue { worker, columns } => {
+                if let Ok(item) = I::read(columns) {
+                    self.perform(Call::AssignEnqueue(worker, item))?;
+                }
+                Ok(())
+            }
+            Order::Dequeue { worker } => {
+                self.perform(Call::AssignDequeue(worker))?;
+                Ok(())
+            }
+            Order::Steps { worker, count } => self.step_on(worker, count),
+        }
     }
-    Ok(())
+
+    // Plays the orders of a body, one after the other, as the player's first calls. `Play` has open fields, which a caller may
+    // fill, so that it cannot promise how long its body is.
+    pub(crate) fn play_body(&mut self, items: ItemChoice, body: &[u8]) -> Result<(), ReportError>
+        requires new { self.old.calls ≡ 0 }
+        requires short { length body.now ≤ 60000 }
+        ensures { (os : List PlainOrder) → body.now ≡ orders_text os → OrdersFit items os → Body result self.new.table.control self.new.table.cells.now self.new.table.workers.now self.new.out.items (all_ordered I.ItemKind.text I.ItemKind.reading K.RingKind.step os (playing self.old)) }
+    {
+        let mut rest = body;
+        while let Some(next) = next_order(items, rest) {
+            self.play_order(next.order)?;
+            rest = next.rest;
+        }
+        Ok(())
+    }
 }

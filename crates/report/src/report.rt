@@ -21,31 +21,18 @@ use ring::kind::RingKind;
 use ring::table::*;
 use std::alloc::{AllocError, Global};
 
-// The fault line of a play that has one.
+// The fault line of a play that has one. A line of its own width and writer; so are the two others that are printed.
 fn report_fault(heap: Global, fault: PlayFault) -> Result<Vec<u8>, ReportError>
     ensures { Reported result (fault_report fault) }
 {
     let mut line = [0u8; FAULT_LINE];
-    if let Err(_) = write_fault(&mut line, fault) {
-        return Err(ReportError::Wide);
-    }
+    write_fault(&mut line, fault)?;
     let mut out = Vec::new(heap);
     out.extend_from_slice(&line)?;
     Ok(out)
 }
 
-// As many of one value as are wanted.
-fn repeated<T: Copy>(heap: Global, value: T, count: u32) -> Result<Vec<T>, AllocError>
-    ensures { IfOk result (λ v. vec_len v ≡ count) }
-{
-    let mut places = Vec::new(heap);
-    for _place in 0..count {
-        places.push(value)?;
-    }
-    Ok(places)
-}
-
-// A play on a ring of one kind, with items of one kind.
+// A play on a ring of one kind, with items of one kind. Header and body, and no `Play`: clauses would read it by its entry.
 fn play_on<I: ItemKind, K: RingKind<I>>(
     heap: Global,
     kind: &K,
@@ -59,8 +46,8 @@ fn play_on<I: ItemKind, K: RingKind<I>>(
     ensures orders { (os : List PlainOrder) → OrderBooks I.ItemKind.text I.ItemKind.reading K.RingKind.step header.cells header.workers os }
     ensures books { (os : List PlainOrder) → RunBooks I.ItemKind.text I.ItemKind.reading K.RingKind.step header.cells header.workers os }
 {
-    let mut cells = repeated(heap, Cell::<I>::fresh(), header.cells)?;
-    let mut workers = repeated(heap, Worker::<I>::idle(), header.workers)?;
+    let mut cells = vec![in heap; Cell::<I>::fresh(); header.cells as usize]?;
+    let mut workers = vec![in heap; Worker::<I>::idle(); header.workers as usize]?;
     play_table(
         heap,
         kind,
@@ -71,7 +58,7 @@ fn play_on<I: ItemKind, K: RingKind<I>>(
     )
 }
 
-// A play on the ring and with the items that its header names.
+// A play on the ring and with the items that its header names. A match: a kind as a `dyn` value has no rows that a clause can name.
 fn play_chosen(heap: Global, header: Header, body: &[u8]) -> Result<Vec<u8>, ReportError>
     requires range { HeaderFits header }
     requires short { length body.now ≤ 60000 }

@@ -4,30 +4,27 @@ ghost use Rattle.ring.specs.Table.{InRange};
 ghost use Rattle.play.specs.Orders.{PlainOrder};
 ghost use Rattle.play.specs.Text.{OrdersFit, orders_text};
 ghost use Rattle.report.specs.Player.{LastPrinted};
-ghost use Rattle.lines.specs.LastLine.{last_fields};
-ghost use Rattle.report.specs.RunBooks.{RunBooks};
-ghost use Rattle.report.specs.Whole.{Reported, whole_run};
+ghost use Rattle.calls.specs.Lent.{table_of};
+ghost use Rattle.report.specs.Whole.{Reported, table_fields, whole_run};
 
 use crate::error::*;
-use crate::player::play_body;
+use crate::player::Player;
 use calls::lay_out::lay_out;
 use calls::occupied::count_occupied;
+use calls::table::Table;
 use items::ItemKind;
 use lines::last_line::*;
 use play::header::ItemChoice;
-use ring::control::Control;
 use ring::kind::RingKind;
 use ring::table::*;
 use std::alloc::Global;
 
-// Prints the last line.
-fn print_last(out: &mut Vec<u8>, control: &Control, occupied: usize) -> Result<(), ReportError>
-    ensures { LastPrinted (last_fields control.now.head control.now.tail control.now.closed occupied) out.old.items out.new.items result }
+// Prints the last line: what the table has come to.
+fn print_last<I: ItemKind, K>(out: &mut Vec<u8>, table: &Table<'_, I, K>) -> Result<(), ReportError>
+    ensures { LastPrinted (table_fields (table_of table.now)) out.old.items out.new.items result }
 {
     let mut line = [0u8; LAST_LINE];
-    if let Err(_) = write_last(&mut line, control, occupied) {
-        return Err(ReportError::Wide);
-    }
+    write_last(&mut line, &table.control, count_occupied(table.cells))?;
     out.extend_from_slice(&line)?;
     Ok(())
 }
@@ -44,14 +41,21 @@ pub(crate) fn play_table<I: ItemKind, K: RingKind<I>>(
     requires range { InRange (length cells.old) (length workers.old) }
     requires short { length body.now ≤ 60000 }
     ensures text { (os : List PlainOrder) → body.now ≡ orders_text os → OrdersFit items os → Reported result (whole_run I.ItemKind.text I.ItemKind.reading K.RingKind.step (length cells.old) (length workers.old) os) }
-    ensures books { (os : List PlainOrder) → RunBooks I.ItemKind.text I.ItemKind.reading K.RingKind.step (length cells.old) (length workers.old) os }
 {
-    let mut control = match lay_out(cells, workers) {
-        Ok(laid) => laid,
-        Err(_) => unreachable(),
+    let control = lay_out(cells, workers).unwrap();
+    let table = Table {
+        kind,
+        control,
+        cells,
+        workers,
     };
-    let mut out = Vec::new(heap);
-    play_body(kind, &mut control, cells, workers, &mut out, items, body)?;
-    print_last(&mut out, &control, count_occupied(cells))?;
+    let mut player = Player {
+        table,
+        calls: 0,
+        out: Vec::new(heap),
+    };
+    player.play_body(items, body)?;
+    let Player { table, mut out, .. } = player;
+    print_last(&mut out, &table)?;
     Ok(out)
 }

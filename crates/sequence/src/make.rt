@@ -1,45 +1,26 @@
 // Any one call.
 ghost use Rattle.std.specs.Prelude.{◌≡◌};
 ghost use Rattle.ring.specs.Calls.{called};
-ghost use Rattle.calls.specs.Promise.{table, left, Continues};
+ghost use Rattle.calls.specs.Promise.{Continues};
+ghost use Rattle.calls.specs.Lent.{table_of, left_by, SameMemory};
 
-use calls::assign::*;
-use calls::step::step;
+use calls::table::Table;
 use ring::answers::*;
 use ring::call::Call;
-use ring::control::Control;
 use ring::kind::RingKind;
-use ring::table::*;
-
-// An assignment or a step. These are the rows alone.
-fn call_made<I: Copy, K: RingKind<I>>(
-    kind: &K,
-    control: &mut Control,
-    cells: &mut [Cell<I>],
-    workers: &mut [Worker<I>],
-    call: Call<I>,
-) -> Result<Answer<I>, Refusal>
-    ensures { left control.new cells.new workers.new result ≡ called K.RingKind.step (table control.old cells.old workers.old) call }
-{
-    match call {
-        Call::AssignEnqueue(number, item) => assign_enqueue::<I, K>(
-            control, cells, workers, number, item,
-        ),
-        Call::AssignDequeue(number) => assign_dequeue::<I, K>(control, cells, workers, number),
-        Call::Step(number) => step(kind, control, cells, workers, number),
-    }
-}
 
 // Makes the call: an assignment or a step.
 pub fn make_call<I: Copy, K: RingKind<I>>(
-    kind: &K,
-    control: &mut Control,
-    cells: &mut [Cell<I>],
-    workers: &mut [Worker<I>],
+    table: &mut Table<'_, I, K>,
     call: Call<I>,
 ) -> Result<Answer<I>, Refusal>
-    ensures rows { left control.new cells.new workers.new result ≡ called K.RingKind.step (table control.old cells.old workers.old) call }
-    ensures books { Continues K.RingKind.step (table control.old cells.old workers.old) call (table control.new cells.new workers.new) }
+    ensures memory { SameMemory table.old table.new }
+    ensures rows { left_by table.new result ≡ called K.RingKind.step (table_of table.old) call }
+    ensures books { Continues K.RingKind.step (table_of table.old) call (table_of table.new) }
 {
-    call_made(kind, control, cells, workers, call)
+    match call {
+        Call::AssignEnqueue(number, item) => table.assign_enqueue(number, item),
+        Call::AssignDequeue(number) => table.assign_dequeue(number),
+        Call::Step(number) => table.step(number),
+    }
 }

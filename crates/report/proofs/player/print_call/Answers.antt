@@ -11,8 +11,8 @@ returns g c =
     let text = g.I.ItemKind.text in
     let line = c.write_call.new.buffer in
     let before = vec_items c.args.out.now in
-    let is = line_done (call_line text c.args.call c.args.worker c.args.reply) (replicate 45 0) line c.in_default.field-0 refl
-    (line_wide text g.met.I.ItemKind.wide c.args.call c.args.worker c.args.reply) (ap (λ x. (x, line)) (sym c.in_default.is) ∙ c.write_call.ensures) in
+    let is = line_done (call_line text c.args.call c.args.worker c.args.reply) (replicate 45 0) line c.in_ok-write_call.field-0 refl
+    (line_wide text g.met.I.ItemKind.wide c.args.call c.args.worker c.args.reply) (ap (λ x. (x, line)) (sym c.in_ok-write_call.was) ∙ c.write_call.ensures) in
     let shows = cond-true (is_printed c.args.reply) _ _ (sym c.prints.ensures ∙ c.if-not-prints.false) ∙ is in
     let was = c.in_ok-extend_from_slice.was in (
       ap has_line shows,
