@@ -4,29 +4,27 @@
 
 ghost use Rattle.std.specs.Prelude.{ℕ, ◌<◌};
 
-use calls::assign::*;
 use calls::lay_out::lay_out;
-use calls::step::step;
-use crq::*;
-use prq::*;
+use calls::table::Table;
+use crq::Crq;
+use prq::Prq;
 use ring::answers::*;
-use ring::control::Control;
 use ring::kind::RingKind;
-use ring::table::*;
+use ring::table::{Cell, Worker};
 use std::io;
-use tickets::*;
+use tickets::WorkerNo;
 
 // A worker is assigned an operation, an enqueue if it has an item, and stepped alone.
 #[derive(Clone, Copy)]
 struct Spell {
-    worker: u16,
+    worker: WorkerNo,
     item: Option<u8>,
     steps: u8,
 }
 
 fn enqueues(worker: u16, item: u8, steps: u8) -> Spell {
     Spell {
-        worker,
+        worker: WorkerNo(worker),
         item: Some(item),
         steps,
     }
@@ -34,224 +32,167 @@ fn enqueues(worker: u16, item: u8, steps: u8) -> Spell {
 
 fn dequeues(worker: u16, steps: u8) -> Spell {
     Spell {
-        worker,
+        worker: WorkerNo(worker),
         item: None,
         steps,
     }
 }
 
-// A run with its number, on a table with two workers.
+impl Spell {
+    // Assigns the operation. A refusal shows in the steps.
+    fn begin<K: RingKind<u8>>(self, table: &mut Table<'_, u8, K>) {
+        let _ = match self.item {
+            Some(item) => table.assign_enqueue(self.worker, item),
+            None => table.assign_dequeue(self.worker),
+        };
+    }
+}
+
+// A run with its number: what comes before, and the spell whose steps are told.
 #[derive(Clone, Copy)]
 struct Run<'a> {
     number: u8,
     before: &'a [Spell],
     last: Spell,
+    tells_epoch: bool,
 }
 
-// The answer's number or the refusal's, and the ticket or 0.
-fn numbers(outcome: Result<Answer<u8>, Refusal>) -> (u8, u64) {
-    match outcome {
-        Ok(answer) => (
-            answer.number(),
-            match answer.ticket() {
-                Some(ticket) => ticket.0,
-                None => 0,
-            },
-        ),
-        Err(refusal) => (refusal.number(), 0),
+impl<'a> Run<'a> {
+    fn new(number: u8, before: &'a [Spell], last: Spell) -> Run<'a> {
+        Run {
+            number,
+            before,
+            last,
+            tells_epoch: false,
+        }
+    }
+
+    // A run of one spell, after which the epoch of cell 0 is told.
+    fn to_epoch(number: u8, last: Spell) -> Run<'a> {
+        Run {
+            number,
+            before: &[],
+            last,
+            tells_epoch: true,
+        }
     }
 }
 
-fn assign<K: RingKind<u8>>(
-    control: &Control,
-    cells: &[Cell<u8>],
-    workers: &mut [Worker<u8>],
-    spell: Spell,
-) -> Result<Answer<u8>, Refusal> {
-    let number = WorkerNo(spell.worker);
-    match spell.item {
-        Some(item) => assign_enqueue::<u8, K>(control, cells, workers, number, item),
-        None => assign_dequeue::<u8, K>(control, cells, workers, number),
+// Prints what a step of a run came to, unless it is still working.
+fn tell(rt: &HostRuntime, run: u8, reply: Result<Answer<u8>, Refusal>, step: u8) -> io::Result<()> {
+    if let Ok(Answer::Working) = reply {
+        return Ok(());
     }
+    let number = match reply {
+        Ok(answer) => answer.number(),
+        Err(refusal) => refusal.number(),
+    };
+    let ticket = reply.ok().and_then(|answer| answer.ticket());
+    let ticket = ticket.map_or(0, |ticket| ticket.0);
+    println!(rt; "{run:>3} {number:>6} {ticket:>6} {step:>4}")
 }
 
-// Makes a spell, and prints what its steps tell where a run's number is given: all but working.
+// Makes what comes before, and prints what the last spell tells.
 fn make<K: RingKind<u8>>(
     rt: &HostRuntime,
-    kind: &K,
-    control: &mut Control,
-    cells: &mut [Cell<u8>],
-    workers: &mut [Worker<u8>],
-    spell: Spell,
-    run: Option<u8>,
+    table: &mut Table<'_, u8, K>,
+    run: &Run,
 ) -> io::Result<()> {
-    let _ = assign::<K>(control, cells, workers, spell);
-    for at in 0..spell.steps {
-        let outcome = step(kind, control, cells, workers, WorkerNo(spell.worker));
-        let (answer, ticket) = numbers(outcome);
-        if let Some(run) = run {
-            if answer != 1 {
-                println!(rt; "{run:>3} {answer:>6} {ticket:>6} {:>4}", at + 1)?;
-            }
+    for spell in run.before {
+        spell.begin(table);
+        for _ in 0..spell.steps {
+            let _ = table.step(spell.worker);
         }
     }
-    Ok(())
-}
-
-// Lays the table out, makes what comes before, and prints what the last spell tells.
-fn play<K: RingKind<u8>>(
-    rt: &HostRuntime,
-    kind: &K,
-    cells: &mut [Cell<u8>],
-    workers: &mut [Worker<u8>],
-    run: Run,
-) -> io::Result<()> {
-    match lay_out(cells, workers) {
-        Err(refusal) => println!(rt; "{:>3} {:>6}", run.number, refusal.number()),
-        Ok(mut control) => {
-            for spell in run.before {
-                make(rt, kind, &mut control, cells, workers, *spell, None)?;
-            }
-            make(
-                rt,
-                kind,
-                &mut control,
-                cells,
-                workers,
-                run.last,
-                Some(run.number),
-            )
+    run.last.begin(table);
+    for step in 1..=run.last.steps {
+        tell(rt, run.number, table.step(run.last.worker), step)?;
+    }
+    match table.cells.first() {
+        Some(cell) if run.tells_epoch => {
+            println!(rt; "    cell 0 has epoch {}", cell.pair.epoch.0)
         }
+        _ => Ok(()),
     }
 }
 
-// Runs on a ring of one cell.
-fn on_one_cell(
+// Makes each run on a new table with as many cells and two workers.
+fn make_all<const CELLS: usize, K: RingKind<u8>>(
     rt: &HostRuntime,
-    cells: &mut [Cell<u8>],
-    workers: &mut [Worker<u8>],
-) -> io::Result<()> {
-    let placed = enqueues(1, 7, 7);
-    let full = enqueues(1, 8, 6);
-    let runs = [
-        Run {
-            number: 1,
-            before: &[],
-            last: placed,
-        },
-        Run {
-            number: 2,
-            before: &[placed],
-            last: full,
-        },
-        Run {
-            number: 3,
-            before: &[placed, full],
-            last: enqueues(1, 9, 2),
-        },
-    ];
+    kind: &K,
+    runs: &[Run],
+) -> io::Result<()>
+    requires { CELLS < 2000 }
+{
     for run in runs {
-        play(rt, &Prq, cells, workers, run)?;
+        let mut cells: [Cell<u8>; CELLS] = [Cell::fresh(); CELLS];
+        let mut workers = [Worker::idle(); 2];
+        match lay_out(&mut cells, &mut workers) {
+            Err(refusal) => println!(rt; "{:>3} {:>6}", run.number, refusal.number())?,
+            Ok(control) => {
+                let mut table = Table {
+                    kind,
+                    control,
+                    cells: &mut cells,
+                    workers: &mut workers,
+                };
+                make(rt, &mut table, run)?;
+            }
+        }
     }
     Ok(())
 }
 
-// The last run is on one cell again.
-fn on_one_cell_last(
-    rt: &HostRuntime,
-    cells: &mut [Cell<u8>],
-    workers: &mut [Worker<u8>],
-) -> io::Result<()> {
-    let run = Run {
-        number: 8,
-        before: &[enqueues(1, 7, 7), dequeues(1, 1)],
-        last: dequeues(2, 6),
-    };
-    play(rt, &Prq, cells, workers, run)
-}
-
-// The epoch of cell 0.
-fn print_epoch(rt: &HostRuntime, cells: &[Cell<u8>]) -> io::Result<()> {
-    match cells.first() {
-        Some(cell) => println!(rt; "    cell 0 has epoch {}", cell.pair.epoch.0),
-        None => Ok(()),
-    }
-}
-
-// Runs on a ring of two cells.
-fn on_two_cells(
-    rt: &HostRuntime,
-    cells: &mut [Cell<u8>],
-    workers: &mut [Worker<u8>],
-) -> io::Result<()> {
-    let passed = Run {
-        number: 4,
-        before: &[],
-        last: dequeues(1, 6),
-    };
-    play(rt, &Prq, cells, workers, passed)?;
-    print_epoch(rt, cells)?;
-    let after = Run {
-        number: 5,
-        before: &[dequeues(1, 6)],
-        last: enqueues(1, 7, 12),
-    };
-    play(rt, &Prq, cells, workers, after)?;
-    let crq = Run {
-        number: 6,
-        before: &[],
-        last: dequeues(1, 5),
-    };
-    play(rt, &Crq, cells, workers, crq)?;
-    print_epoch(rt, cells)?;
-    let stopped = Run {
-        number: 7,
-        before: &[enqueues(1, 7, 6)],
-        last: dequeues(2, 7),
-    };
-    play(rt, &Prq, cells, workers, stopped)
-}
-
-// Lays out as many cells as are given, and prints the count or the refusal.
-fn lay(rt: &HostRuntime, cells: &mut [Cell<u8>], workers: &mut [Worker<u8>]) -> io::Result<()> {
-    match lay_out(cells, workers) {
-        Ok(control) => println!(rt; "{} cells are laid out", control.cells),
-        Err(refusal) => println!(rt; "{} cells give {}", cells.len(), refusal.number()),
-    }
-}
-
-// As many cells, with two workers.
+// Lays out as many cells with two workers, and prints the count or the refusal.
 fn lay_many<const CELLS: usize>(rt: &HostRuntime) -> io::Result<()>
     requires { CELLS < 2000 }
 {
     let mut cells: [Cell<u8>; CELLS] = [Cell::fresh(); CELLS];
-    let mut workers = [Worker::idle(), Worker::idle()];
-    lay(rt, &mut cells, &mut workers)
+    let mut workers = [Worker::idle(); 2];
+    match lay_out(&mut cells, &mut workers) {
+        Ok(control) => println!(rt; "{} cells are laid out", control.cells),
+        Err(refusal) => println!(rt; "{CELLS} cells give {}", refusal.number()),
+    }
 }
 
-fn one_cell(rt: &HostRuntime) -> io::Result<()> {
-    let mut cells = [Cell::fresh()];
-    let mut workers = [Worker::idle(), Worker::idle()];
-    on_one_cell(rt, &mut cells, &mut workers)
-}
-
-fn one_cell_last(rt: &HostRuntime) -> io::Result<()> {
-    let mut cells = [Cell::fresh()];
-    let mut workers = [Worker::idle(), Worker::idle()];
-    on_one_cell_last(rt, &mut cells, &mut workers)
-}
-
-fn two_cells(rt: &HostRuntime) -> io::Result<()> {
-    let mut cells = [Cell::fresh(), Cell::fresh()];
-    let mut workers = [Worker::idle(), Worker::idle()];
-    on_two_cells(rt, &mut cells, &mut workers)
+// The runs on a ring of one cell and of two, in the order of their numbers.
+fn worked_runs(rt: &HostRuntime) -> io::Result<()> {
+    let placed = enqueues(1, 7, 7);
+    let full = enqueues(1, 8, 6);
+    let passed = dequeues(1, 6);
+    make_all::<1, _>(
+        rt,
+        &Prq,
+        &[
+            Run::new(1, &[], placed),
+            Run::new(2, &[placed], full),
+            Run::new(3, &[placed, full], enqueues(1, 9, 2)),
+        ],
+    )?;
+    make_all::<2, _>(
+        rt,
+        &Prq,
+        &[
+            Run::to_epoch(4, passed),
+            Run::new(5, &[passed], enqueues(1, 7, 12)),
+        ],
+    )?;
+    make_all::<2, _>(rt, &Crq, &[Run::to_epoch(6, dequeues(1, 5))])?;
+    make_all::<2, _>(
+        rt,
+        &Prq,
+        &[Run::new(7, &[enqueues(1, 7, 6)], dequeues(2, 7))],
+    )?;
+    make_all::<1, _>(
+        rt,
+        &Prq,
+        &[Run::new(8, &[placed, dequeues(1, 1)], dequeues(2, 6))],
+    )
 }
 
 fn main(rt: HostRuntime) -> io::Result<()> {
     println!(rt; "run answer ticket step")?;
-    one_cell(&rt)?;
-    two_cells(&rt)?;
-    one_cell_last(&rt)?;
+    worked_runs(&rt)?;
     lay_many::<1024>(&rt)?;
     lay_many::<1025>(&rt)
 }

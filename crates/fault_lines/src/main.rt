@@ -2,10 +2,11 @@
 // Many faulty plays in one run; the output is compared.
 #![tactic(auto)]
 
-use anyhow::anyhow;
+use anyhow::Context;
 use play::fault_line::{FAULT_LINE, write_fault};
 use play::play::read_play;
 use std::io::{BufRead, BufReader};
+use std::str;
 
 // The byte that a mark stands for.
 fn meant(mark: u8) -> u8 {
@@ -19,34 +20,24 @@ fn meant(mark: u8) -> u8 {
 }
 
 fn tell(rt: &HostRuntime, shown: &str) -> anyhow::Result<()> {
-    let mut bytes = Vec::new(rt.alloc());
-    for mark in shown.as_bytes() {
-        bytes.push(meant(*mark))?;
-    }
-    match read_play(bytes.as_slice()) {
-        Ok(_) => println!(rt; "no fault       {shown}")?,
+    let bytes: Vec<u8> = shown.bytes().map(meant).collect(rt.alloc())?;
+    let mut line = [b' '; FAULT_LINE];
+    let told = match read_play(&bytes) {
+        Ok(_) => "no fault",
         Err(fault) => {
-            let mut line = [b' '; FAULT_LINE];
-            if let Err(_) = write_fault(&mut line, fault) {
-                return Err(anyhow!("the fault line is too wide"));
-            }
-            let mut text = String::new(rt.alloc());
-            for byte in &line[0..FAULT_LINE - 1] {
-                text.push(char::from(*byte))?;
-            }
-            println!(rt; "{text} {shown}")?;
+            write_fault(&mut line, fault)
+                .ok()
+                .context("the fault line is too wide")?;
+            str::from_utf8(&line[..FAULT_LINE - 1])?
         }
-    }
-    Ok(())
-}
-
-fn run(rt: &HostRuntime) -> anyhow::Result<()> {
-    for line in BufReader::new(rt.alloc(), rt.stdin())?.lines(rt.alloc()) {
-        tell(rt, line?.as_str())?;
-    }
+    };
+    println!(rt; "{told:<14} {shown}")?;
     Ok(())
 }
 
 fn main(rt: HostRuntime) -> anyhow::Result<()> {
-    run(&rt)
+    for line in BufReader::new(rt.alloc(), rt.stdin())?.lines(rt.alloc()) {
+        tell(&rt, line?.as_str())?;
+    }
+    Ok(())
 }

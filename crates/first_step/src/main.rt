@@ -1,22 +1,27 @@
 // The example of the README: one enqueue on memory of one's own, and its first step.
 #![tactic(auto)]
 
-use calls::assign::assign_enqueue;
 use calls::lay_out::lay_out;
-use calls::step::step;
-use prq::*;
+use calls::table::Table;
+use prq::Prq;
 use ring::answers::*;
-use ring::table::*;
+use ring::table::{Cell, Worker};
 use std::io;
-use tickets::*;
+use tickets::WorkerNo;
 
 // Two cells, two workers; worker 1 enqueues 7 and makes one step.
 fn first_step() -> Result<Answer<u8>, Refusal> {
-    let mut cells = [Cell::fresh(), Cell::fresh()];
-    let mut workers = [Worker::idle(), Worker::idle()];
-    let mut control = lay_out(&mut cells, &mut workers)?;
-    assign_enqueue::<u8, Prq>(&control, &cells, &mut workers, WorkerNo(1), 7)?;
-    step(&Prq, &mut control, &mut cells, &mut workers, WorkerNo(1))
+    let mut cells = [Cell::fresh(); 2];
+    let mut workers = [Worker::idle(); 2];
+    let control = lay_out(&mut cells, &mut workers)?;
+    let mut table = Table {
+        kind: &Prq,
+        control,
+        cells: &mut cells,
+        workers: &mut workers,
+    };
+    table.assign_enqueue(WorkerNo(1), 7)?;
+    table.step(WorkerNo(1))
 }
 
 fn main(rt: HostRuntime) -> io::Result<()> {

@@ -5,33 +5,24 @@
 
 mod sentence;
 
-use crate::sentence::explain;
+use crate::sentence::Sentence;
 use anyhow::anyhow;
 use play::play::{LONGEST, read_play};
-use report::error::ReportError;
 use report::report::report;
 use std::io::{BufWriter, Read, Write};
 
 // The report on standard output. One byte more than a play may have is enough to know that it is too long.
-fn run(rt: &HostRuntime) -> anyhow::Result<()> {
+fn main(rt: HostRuntime) -> anyhow::Result<()> {
     let heap = rt.alloc();
     let mut bytes = Vec::new(heap);
     let most = LONGEST as u64 + 1;
     rt.stdin().take(most).read_to_end(&mut bytes)?;
-    let text = match report(heap, bytes.as_slice()) {
-        Ok(text) => text,
-        Err(ReportError::Memory) => return Err(anyhow!("ringplay: there is not enough memory")),
-        Err(ReportError::Wide) => return Err(anyhow!("ringplay: a number is wider than its field")),
-    };
+    let text = report(heap, &bytes).map_err(|error| anyhow!("ringplay: {error}"))?;
     let mut out = BufWriter::new(heap, rt.stdout())?;
-    out.write_all(text.as_slice())?;
+    out.write_all(&text)?;
     out.flush()?;
-    if let Err(fault) = read_play(bytes.as_slice()) {
-        explain(rt, fault)?;
+    if let Err(fault) = read_play(&bytes) {
+        eprintln!(rt; "{}", Sentence(fault))?;
     }
     Ok(())
-}
-
-fn main(rt: HostRuntime) -> anyhow::Result<()> {
-    run(&rt)
 }

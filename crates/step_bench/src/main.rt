@@ -2,20 +2,21 @@
 // It prints the counts, which are compared; docs/PERFORMANCE.md has the times.
 #![tactic(auto)]
 
-use anyhow::anyhow;
-use calls::assign::*;
+use anyhow::Context;
 use calls::lay_out::lay_out;
-use calls::step::step;
+use calls::table::Table;
 use prq::Prq;
 use ring::answers::*;
-use ring::control::Control;
-use ring::table::*;
+use ring::table::{Cell, Worker};
+use std::array;
 use tickets::WorkerNo;
 
 const STEPS: u32 = 10_000_000;
 
+const WORKERS: usize = 7;
+
 // How many items were placed and taken.
-#[derive(Clone, Copy)]
+#[derive(Clone, Copy, Default)]
 struct Tally {
     placed: u64,
     taken: u64,
@@ -31,59 +32,71 @@ impl Tally {
     }
 }
 
-// Gives an idle worker the other operation than its last one.
-fn assign_next(
-    control: &Control,
-    cells: &[Cell<u32>],
-    workers: &mut [Worker<u32>],
+// What a worker is assigned.
+#[derive(Clone, Copy)]
+enum Operation {
+    Enqueue,
+    Dequeue,
+}
+
+// A worker, and the operation that it gets when it is idle.
+#[derive(Clone, Copy)]
+struct Member {
     number: WorkerNo,
-    enqueues: bool,
-    item: u32,
-) {
-    if enqueues {
-        let _ = assign_enqueue::<u32, Prq>(control, cells, workers, number, item);
-    } else {
-        let _ = assign_dequeue::<u32, Prq>(control, cells, workers, number);
+    next: Operation,
+}
+
+impl Member {
+    // Makes the first step of the next operation; the one after it is the other.
+    fn start(
+        &mut self,
+        table: &mut Table<'_, u32, Prq>,
+        item: u32,
+    ) -> Result<Answer<u32>, Refusal> {
+        match self.next {
+            Operation::Enqueue => {
+                table.assign_enqueue(self.number, item)?;
+                self.next = Operation::Dequeue;
+            }
+            Operation::Dequeue => {
+                table.assign_dequeue(self.number)?;
+                self.next = Operation::Enqueue;
+            }
+        }
+        table.step(self.number)
     }
 }
 
-fn run(control: &mut Control, cells: &mut [Cell<u32>], workers: &mut [Worker<u32>]) -> Tally {
-    let mut tally = Tally {
-        placed: 0,
-        taken: 0,
-    };
-    let mut enqueues = [true; 7];
+// Makes all steps. An idle worker refuses its step, and makes the first of its next operation.
+fn run(table: &mut Table<'_, u32, Prq>) -> Result<Tally, Refusal> {
+    let mut tally = Tally::default();
+    let mut crew: [Member; WORKERS] = array::from_fn(|at| Member {
+        number: WorkerNo(at as u16 + 1),
+        next: Operation::Enqueue,
+    });
     for turn in 0..STEPS {
-        let at = (turn % 7) as usize;
-        let number = WorkerNo(at as u16 + 1);
-        match step(&Prq, control, cells, workers, number) {
-            Ok(answer) => tally.note(answer),
-            Err(_) => {
-                assign_next(control, cells, workers, number, enqueues[at], turn);
-                enqueues[at] = !enqueues[at];
-                if let Ok(answer) = step(&Prq, control, cells, workers, number) {
-                    tally.note(answer);
-                }
-            }
-        }
+        let member = &mut crew[turn as usize % WORKERS];
+        let reply = table.step(member.number);
+        tally.note(reply.or_else(|_| member.start(table, turn))?);
     }
-    tally
+    Ok(tally)
 }
 
 fn main(rt: HostRuntime) -> anyhow::Result<()> {
-    let mut cells = [Cell::<u32>::fresh(); 64];
-    let mut workers = [Worker::<u32>::idle(); 7];
-    match lay_out(&mut cells, &mut workers) {
-        Ok(laid) => {
-            let mut control = laid;
-            let tally = run(&mut control, &mut cells, &mut workers);
-            let head = control.head;
-            let tail = control.tail;
-            let placed = tally.placed;
-            let taken = tally.taken;
-            println!(rt; "Head {head}, Tail {tail}, placed {placed}, taken {taken}")?;
-            Ok(())
-        }
-        Err(_) => Err(anyhow!("the table was not laid out")),
-    }
+    let mut cells = [Cell::fresh(); 64];
+    let mut workers = [Worker::idle(); WORKERS];
+    let control = lay_out(&mut cells, &mut workers)
+        .ok()
+        .context("the table was not laid out")?;
+    let mut table = Table {
+        kind: &Prq,
+        control,
+        cells: &mut cells,
+        workers: &mut workers,
+    };
+    let tally = run(&mut table).ok().context("a call was refused")?;
+    let (head, tail) = (table.control.head, table.control.tail);
+    let Tally { placed, taken } = tally;
+    println!(rt; "Head {head}, Tail {tail}, placed {placed}, taken {taken}")?;
+    Ok(())
 }
