@@ -16,7 +16,7 @@ enum Seen {
     Nothing,
 }
 
-// The number that the columns write, if they write one; one past 128 bits is held at their end.
+// The number that the columns write, if they write one; one past 64 bits is held as one past them.
 pub fn scanned(columns: &[u8]) -> Option<i128>
     ensures { result ≡ option_map held (number columns.now) }
 {

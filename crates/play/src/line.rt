@@ -1,5 +1,5 @@
 // The columns of a line, read field by field from the left: a header, or an order.
-ghost use Rattle.std.specs.Prelude.{◌≡◌, ◌-◌, ◌≤◌, length, take, drop};
+ghost use Rattle.std.specs.Prelude.{◌≡◌, ◌-◌, ◌≤◌, length, take, drop, IfOk};
 ghost use Rattle.columns.specs.Faults.{at_column};
 ghost use Rattle.play.specs.Letters.{width_of};
 ghost use Rattle.play.specs.declared.letter.Letter.TheVariants.{Order as order_letter};
@@ -26,7 +26,8 @@ fn field<N: ColumnNumber>(
     most: N,
 ) -> Result<N, ColumnFault>
     requires { (1 ≤ first) × ((first ≤ last) × (last ≤ length line.now)) }
-    ensures { result ≡ at_column first (N.reading least most (take (last - (first - 1)) (drop (first - 1) line.now))) }
+    ensures value { result ≡ at_column first (N.reading least most (take (last - (first - 1)) (drop (first - 1) line.now))) }
+    ensures bound { IfOk result (λ n. N.at_most least n × N.at_most n most) }
 {
     let start = first - 1;
     at_column(first, read_number(&line[start..last], least, most))
