@@ -14,7 +14,7 @@ use calls::table::Table;
 use items::ItemKind;
 use lines::call_line::*;
 use play::header::ItemChoice;
-use play::next::next_order;
+use play::next::Orders;
 use play::order::Order;
 use ring::answers::*;
 use ring::call::Call;
@@ -117,10 +117,8 @@ impl<'m, I: ItemKind, K: RingKind<I>> Player<'m, I, K> {
         requires short { length body.now ≤ 60000 }
         ensures { (os : List PlainOrder) → body.now ≡ orders_text os → OrdersFit items os → Body result self.new.table.control self.new.table.cells.now self.new.table.workers.now self.new.out.items (all_ordered I.ItemKind.text I.ItemKind.reading K.RingKind.step os (playing self.old)) }
     {
-        let mut rest = body;
-        while let Some(next) = next_order(items, rest) {
-            self.play_order(next.order)?;
-            rest = next.rest;
+        for order in (Orders { items, rest: body }) {
+            self.play_order(order)?;
         }
         Ok(())
     }
