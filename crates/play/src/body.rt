@@ -27,7 +27,6 @@ pub(crate) fn open_order(letter: char, line: usize) -> Result<OrderLetter, PlayF
 
 // The first fault in line order, if there is one; the body's first line is the play's second.
 pub(crate) fn first_fault(items: ItemChoice, body: &[u8]) -> Option<PlayFault>
-    requires { length body.now ≤ 60000 }
     ensures { result ≡ fault_part (order_lines items 2 (lines_of body.now)) }
 {
     // the form that the project fixed: nested loops over lines and columns, left by a label with the fault as the value
