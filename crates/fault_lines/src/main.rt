@@ -19,6 +19,7 @@ fn meant(mark: u8) -> u8 {
     }
 }
 
+// Prints the play as it was given, behind its fault line.
 fn tell(rt: &HostRuntime, shown: &str) -> anyhow::Result<()> {
     let bytes: Vec<u8> = shown.bytes().map(meant).collect(rt.alloc())?;
     let mut line = [b' '; FAULT_LINE];

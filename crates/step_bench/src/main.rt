@@ -23,6 +23,7 @@ struct Tally {
 }
 
 impl Tally {
+    // Counts what a step came to.
     fn note(&mut self, answer: Answer<u32>) {
         match answer {
             Answer::Placed(_, _) => self.placed = self.placed.wrapping_add(1),
@@ -67,7 +68,7 @@ impl Member {
     }
 }
 
-// Makes all steps. An idle worker refuses its step, and makes the first of its next operation.
+// Makes all steps. A worker that is idle is refused, and makes the first step of its next operation.
 fn run(table: &mut Table<'_, u32, Prq>) -> Result<Tally, Refusal> {
     let mut tally = Tally::default();
     let mut crew: [Member; WORKERS] = array::from_fn(|at| Member {
