@@ -33,9 +33,6 @@ false_leZ a b e = grind (arith, ints)
 pub ltZ_false : (a b : ℤ) → b <ℤ a → le_z a b ≡ false
 ltZ_false a b h = grind (arith, ints)
 
-pub clash : {A : Type 0} → ◌≡◌ {A = ℕ} 0 1 → A
-clash e = absurd (omega arith)
-
 -- a field's text determines its number
 pub field_once : (v w : ℕ) (y z : ℤ) → field v y ≡ field w z → y ≡ z
 field_once v w y z e =
@@ -80,7 +77,7 @@ unfolding number pick
 number_picks cs = refl
 
 pub number_writes : (cs : List ℕ) (z : ℤ) → number cs ≡ Some z → cs ≡ field (length cs) z
-number_writes cs z e = pick_only cs (pos (worth cs)) z _ (pick_only cs (neg_ℤ (pos (worth cs))) z None (λ f. clash (cc))) (sym (number_picks cs) ∙ e)
+number_writes cs z e = pick_only cs (pos (worth cs)) z _ (pick_only cs (neg_ℤ (pos (worth cs))) z None (λ f. cc)) (sym (number_picks cs) ∙ e)
 
 -- a field is as wide as it should be
 
@@ -120,7 +117,7 @@ worth_field w (negsuc n) = worth_blanks (w - length (text (negsuc n))) (text (ne
 picked : (w : ℕ) (z : ℤ) → pick (field w z) (pos (nat_abs z)) (pick (field w z) (neg_ℤ (pos (nat_abs z))) None) ≡ Some z
 picked w (pos n) = pick_yes _ (pos n) _ (sym (field_again w (pos n)))
 picked w (negsuc n) =
-    pick_no _ (pos (suc n)) _ (λ e. let f : negsuc n ≡ pos (suc n) = field_once w (length (field w (negsuc n))) (negsuc n) (pos (suc n)) e in clash (cc))
+    pick_no _ (pos (suc n)) _ (λ e. let f : negsuc n ≡ pos (suc n) = field_once w (length (field w (negsuc n))) (negsuc n) (pos (suc n)) e in cc)
     ∙ pick_yes _ (negsuc n) _ (sym (field_again w (negsuc n)))
 
 -- what is written is read, also where the text is wider than w
@@ -209,8 +206,8 @@ unfolding unsigned_reading
 unsigned_back w least most n p b l m = ap (unsigned_of least most) (number_of_field w (pos n)) ∙ cond-true _ _ _ (in_range least most n l m)
 
 unsigned_ok : (least most n : ℕ) (o : Option ℤ) → unsigned_of least most o ≡ Ok n → (o ≡ Some (pos n)) × (least ≤ n) × (n ≤ most)
-unsigned_ok least most n None e = clash (cc)
-unsigned_ok least most n (Some (negsuc m)) e = clash (cc)
+unsigned_ok least most n None e = cc
+unsigned_ok least most n (Some (negsuc m)) e = cc
 unsigned_ok least most n (Some (pos m)) e =
     elim (cases_Bool (leb least m && leb m most)) [
       | inl is ↦
@@ -218,7 +215,7 @@ unsigned_ok least most n (Some (pos m)) e =
           let g : m ≡ n = cc in
           let b : (leb least m ≡ true) × (leb m most ≡ true) = and_parts _ _ is in
           (ap (λ x. Some (pos x)) g, omega (arith, leb-true least m b.0), omega (arith, leb-true m most b.1))
-      | inr is ↦ let f : ◌≡◌ {A = Result ℕ ReadRefusal} (Err Range) (Ok n) = sym (cond-false _ _ _ is) ∙ e in clash (cc)
+      | inr is ↦ let f : ◌≡◌ {A = Result ℕ ReadRefusal} (Err Range) (Ok n) = sym (cond-false _ _ _ is) ∙ e in cc
     ]
 
 pub unsigned_only : (least most : ℕ) (cs : List ℕ) (n : ℕ) → unsigned_reading least most cs ≡ Ok n → (cs ≡ field (length cs) (pos n)) × (least ≤ n) × (n ≤ most)
@@ -231,7 +228,7 @@ signed_back w least most z l m =
     ap (signed_of least most) (number_of_field w z) ∙ cond-true _ _ _ (and_from _ _ (leZ_true least z l) (leZ_true z most m))
 
 signed_ok : (least most z : ℤ) (o : Option ℤ) → signed_of least most o ≡ Ok z → (o ≡ Some z) × (least ≤ℤ z) × (z ≤ℤ most)
-signed_ok least most z None e = clash (cc)
+signed_ok least most z None e = cc
 signed_ok least most z (Some y) e =
     elim (cases_Bool (le_z least y && le_z y most)) [
       | inl is ↦
@@ -239,7 +236,7 @@ signed_ok least most z (Some y) e =
           let g : y ≡ z = cc in
           let b = and_parts _ _ is in
           (ap (λ x. Some x) g, subst (λ x. least ≤ℤ x) g (true_leZ least y b.0), subst (λ x. x ≤ℤ most) g (true_leZ y most b.1))
-      | inr is ↦ let f : ◌≡◌ {A = Result ℤ ReadRefusal} (Err Range) (Ok z) = sym (cond-false _ _ _ is) ∙ e in clash (cc)
+      | inr is ↦ let f : ◌≡◌ {A = Result ℤ ReadRefusal} (Err Range) (Ok z) = sym (cond-false _ _ _ is) ∙ e in cc
     ]
 
 pub signed_only : (least most : ℤ) (cs : List ℕ) (z : ℤ) → signed_reading least most cs ≡ Ok z → (cs ≡ field (length cs) z) × (least ≤ℤ z) × (z ≤ℤ most)
@@ -261,7 +258,7 @@ written_past w z buffer room past = cond-false _ _ _ (le-ltb (length buffer) w r
 pub written_ok : (w : ℕ) (z : ℤ) (part last : List ℕ) (r : Result (Unit {0}) WriteRefusal) → length part ≡ w → (r, last) ≡ written w z part → r ≡ Ok tt → (last ≡ field w z) × (length (text z) ≤ w)
 written_ok w z part last r n e f =
     elim (cases_lt w (length (text z))) [
-      | inl past ↦ let g : r ≡ Err refusing.Range = ap (λ p. p.0) (e ∙ written_past w z part (omega arith) past) in clash (cc)
+      | inl past ↦ let g : r ≡ Err refusing.Range = ap (λ p. p.0) (e ∙ written_past w z part (omega arith) past) in cc
       | inr fits ↦
           let g : last ≡ put (field w z) part = ap (λ p. p.1) (e ∙ written_fits w z part (omega arith) fits) in
           (g ∙ ap (λ l. field w z ++ l) (drop_all (length (field w z)) part (omega (arith, length_field w z fits))) ∙ append-nil (field w z), fits)
@@ -271,5 +268,5 @@ pub written_err : (w : ℕ) (z : ℤ) (part last : List ℕ) (r : Result (Unit {
 written_err w z part last r why n e f =
     elim (cases_lt w (length (text z))) [
       | inl past ↦ let g : r ≡ Err refusing.Range = ap (λ p. p.0) (e ∙ written_past w z part (omega arith) past) in (cc, past)
-      | inr fits ↦ let g : r ≡ Ok tt = ap (λ p. p.0) (e ∙ written_fits w z part (omega arith) fits) in clash (cc)
+      | inr fits ↦ let g : r ≡ Ok tt = ap (λ p. p.0) (e ∙ written_fits w z part (omega arith) fits) in cc
     ]

@@ -13,7 +13,7 @@ use Rattle.columns.specs.NumberTypes.{answer_of, NumberLaws}
 use Rattle.columns.specs.Scanning.{long, held_size, held, more, digit_from, seen_after, seen_number, signed_within, with_digit}
 use Rattle.columns.specs.declared.scanning.Seen.{Seen}
 use Rattle.columns.specs.declared.scanning.Seen.TheVariants.{Blanks, Minus, Number, Nothing}
-use Rattle.columns.proofs.Laws.{clash, number_writes, number_of_field, number_from_writes, writes_from_number, true_leZ, false_leZ, leZ_true, ltZ_false}
+use Rattle.columns.proofs.Laws.{number_writes, number_of_field, number_from_writes, writes_from_number, true_leZ, false_leZ, leZ_true, ltZ_false}
 use Rattle.columns.proofs.Scan.{Scan, blanks, minus, so_far, spoilt, step, scan, found, scan_field}
 use Rattle.columns.proofs.Shapes.{scan_exact}
 use Rattle.columns.proofs.Texts.{push}
@@ -160,17 +160,17 @@ within_held least most z l m =
 
 pub form_told : (least most : ℤ) (o : Option ℤ) (e : ReadRefusal) → ok_or (option_map held o) Form ≡ Err e → Err e ≡ signed_of least most o
 form_told least most None e h = sym h
-form_told least most (Some z) e h = clash (cc)
+form_told least most (Some z) e h = cc
 
 pub found_told : (least most f : ℤ) (o : Option ℤ) → unsigned_abs least < 2 ^ 64 → unsigned_abs most < 2 ^ 64 → ok_or {E = ReadRefusal} (option_map held o) Form ≡ Ok f → signed_within least most (Some f) ≡ signed_of least most o
-found_told least most f None l m h = clash (cc)
+found_told least most f None l m h = cc
 found_told least most f (Some z) l m h = let same : f ≡ held z = cc in ap (λ y. signed_within least most (Some y)) same ∙ within_held least most z l m
 
 -- an answer is tied to the columns, and no other is
 
 signed_tie : (least most : ℤ) (cs : List ℕ) (o : Option ℤ) → number cs ≡ o → ReadsSigned least most cs (signed_of least most o)
 unfolding ReadsSigned Writes
-signed_tie least most cs None e = λ z h. let f : number cs ≡ Some z = number_from_writes cs z h in clash (cc)
+signed_tie least most cs None e = λ z h. let f : number cs ≡ Some z = number_from_writes cs z h in cc
 signed_tie least most cs (Some z) e =
     let w = number_writes cs z e in
     cond_both (le_z least z && le_z z most) _ _ (ReadsSigned least most cs)
@@ -205,8 +205,8 @@ signed_bound least most cs (Err e) h = tt
 module _ {N : Type 0} (value : N → ℤ) (in_range : ℤ → Type 0) (at_most : N → N → Type 0) (reading : N → N → List ℕ → Result N ReadRefusal) (reads : N → N → List ℕ → Result N ReadRefusal → Type 0) (laws : NumberLaws value in_range at_most reading reads) (least most : N) where
   answer_once : (r s : Result N ReadRefusal) → answer_of value r ≡ answer_of value s → r ≡ s
   answer_once (Ok m) (Ok n) e = let same : value m ≡ value n = cc in ap Ok (laws.once m n same)
-  answer_once (Ok m) (Err b) e = clash (cc)
-  answer_once (Err a) (Ok n) e = clash (cc)
+  answer_once (Ok m) (Err b) e = cc
+  answer_once (Err a) (Ok n) e = cc
   answer_once (Err a) (Err b) e = let same : a ≡ b = cc in ap Err same
 
   pub read_value : (cs : List ℕ) (r : Result N ReadRefusal) → answer_of value r ≡ signed_of (value least) (value most) (number cs) → r ≡ reading least most cs

@@ -49,7 +49,7 @@ pub row_refused : (fs : List Field) (part after : List ℕ) (e : WriteRefusal) �
 row_refused fs part after e room said =
     let here = said ∙ cond-false (ltb (length part) (row_width fs)) _ _ (le-ltb (length part) (row_width fs) (omega arith)) in
     elim (cases_Bool (row_fits fs)) [
-      | inl fits ↦ let no' = ap (λ x. x.0) (here ∙ cond-true (row_fits fs) _ _ fits) in let z : ◌≡◌ {A = ℕ} 0 1 = cc in absurd (omega arith)
+      | inl fits ↦ let no' = ap (λ x. x.0) (here ∙ cond-true (row_fits fs) _ _ fits) in cc
       | inr wide ↦ let is = here ∙ cond-false (row_fits fs) _ _ wide in let first = ap (λ x. x.0) is in let same : e ≡ Range = cc in (same, ap (λ x. x.1) is, wide)
     ]
 
@@ -63,5 +63,5 @@ row_done fs part after u room said =
             ∙ (ap (λ x. row_text fs ++ x) (drop_all (length (row_text fs)) part (omega (arith, length_row fs fits))) ∙ append-nil (row_text fs)),
         fits,
       )
-      | inr wide ↦ let no' = ap (λ x. x.0) (here ∙ cond-false (row_fits fs) _ _ wide) in let z : ◌≡◌ {A = ℕ} 0 1 = cc in absurd (omega arith)
+      | inr wide ↦ let no' = ap (λ x. x.0) (here ∙ cond-false (row_fits fs) _ _ wide) in cc
     ]

@@ -74,10 +74,10 @@ field_of cs z k e =
     e ∙ ap (λ m. replicate m 32 ++ text z) (sym n)
 
 by_end : (s : Scan) (cs : List ℕ) (z : ℤ) → Shape s cs → found s ≡ Some z → cs ≡ field (length cs) z
-by_end blanks cs z h e = let x : ◌≡◌ {A = ℕ} 0 1 = cc in absurd (omega arith)
-by_end minus cs z h e = let x : ◌≡◌ {A = ℕ} 0 1 = cc in absurd (omega arith)
+by_end blanks cs z h e = cc
+by_end minus cs z h e = cc
 by_end (so_far y) cs z (k, h) e = let x : y ≡ z = cc in field_of cs z k (h ∙ ap (λ t. replicate k 32 ++ text t) x)
-by_end spoilt cs z h e = let x : ◌≡◌ {A = ℕ} 0 1 = cc in absurd (omega arith)
+by_end spoilt cs z h e = cc
 
 pub scan_exact : (cs : List ℕ) (z : ℤ) → found (scan blanks cs) ≡ Some z → cs ≡ field (length cs) z
 scan_exact cs z e = by_end (scan blanks cs) cs z (shape_scan blanks [] cs (0, refl)) e

@@ -12,7 +12,7 @@ use Rattle.columns.specs.Faults.{at_column}
 use Rattle.columns.specs.Number.{text, field}
 use Rattle.columns.specs.declared.fault.ColumnFault.{ColumnFault}
 use Rattle.columns.specs.declared.refusal.WriteRefusal.TheVariants.{Range}
-use Rattle.columns.proofs.Laws.{clash, text_below, length_text, length_field, printed_field, printed_blanks, unsigned_back, unsigned_only}
+use Rattle.columns.proofs.Laws.{text_below, length_text, length_field, printed_field, printed_blanks, unsigned_back, unsigned_only}
 use Rattle.items.specs.ItemText.{Printed}
 use Rattle.items.specs.Job.{number_most, block_word, sweep_word, flush_word, stop_word, no_number, numbered_text, job_text, numbered, number_reading, bare, job_of, job_reading}
 use Rattle.items.specs.declared.job.Job.{Job}
@@ -24,7 +24,7 @@ unfolding numbered_text
 numbered_is word n cs e =
     elim (cases_Bool (nat_le n number_most)) [
       | inl is ↦ let f : Some (word ++ field 9 (pos n)) ≡ Some cs = sym (cond-true _ _ _ is) ∙ e in (leb-true n number_most is, cc)
-      | inr is ↦ let f : None ≡ Some cs = sym (cond-false _ _ _ is) ∙ e in clash (cc)
+      | inr is ↦ let f : None ≡ Some cs = sym (cond-false _ _ _ is) ∙ e in cc
     ]
 
 pub number_length : (n : ℕ) → n ≤ number_most → length (field 9 (pos n)) ≡ 9
@@ -45,13 +45,13 @@ job_back Stop cs e = let f : stop_word ++ no_number ≡ cs = cc in ap job_readin
 
 numbered_ok : (job : ℕ → Job) (r : Result ℕ ColumnFault) (j : Job) → numbered job r ≡ Ok j → (n : ℕ) × (r ≡ Ok n) × (job n ≡ j)
 numbered_ok job (Ok n) j e = (n, refl, cc)
-numbered_ok job (Err f) j e = clash (cc)
+numbered_ok job (Err f) j e = cc
 
 bare_ok : (job j : Job) (rest : List ℕ) → bare job rest ≡ Ok j → (rest ≡ no_number) × (job ≡ j)
 bare_ok job j rest e =
     elim (cases_Bool (bytes_eq rest no_number)) [
       | inl is ↦ let f : ◌≡◌ {A = Result Job ColumnFault} (Ok job) (Ok j) = sym (cond-true _ _ _ is) ∙ e in ((bytes_eq-Decides rest no_number).0 is, cc)
-      | inr is ↦ let f : ◌≡◌ {A = Result Job ColumnFault} (Err _) (Ok j) = sym (cond-false _ _ _ is) ∙ e in clash (cc)
+      | inr is ↦ let f : ◌≡◌ {A = Result Job ColumnFault} (Err _) (Ok j) = sym (cond-false _ _ _ is) ∙ e in cc
     ]
 
 -- a word with a number, read
@@ -79,7 +79,7 @@ job_of_only word rest j n e =
     tried word block_word rest j _ _ (numbered_only block_word rest Block j n (λ m. refl))
     (tried word sweep_word rest j _ _ (numbered_only sweep_word rest Sweep j n (λ m. refl))
     (tried word flush_word rest j _ _ (bare_only flush_word rest Flush j refl)
-    (tried word stop_word rest j _ _ (bare_only stop_word rest Stop j refl) (λ f. clash (cc))))) e
+    (tried word stop_word rest j _ _ (bare_only stop_word rest Stop j refl) (λ f. cc)))) e
 
 pub job_only : (cs : List ℕ) (j : Job) → length cs ≡ 15 → job_reading cs ≡ Ok j → job_text j ≡ Some cs
 unfolding job_reading

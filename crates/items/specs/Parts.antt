@@ -5,11 +5,10 @@ use borrow.Rule.Slice.PartMut.{put_mid}
 use Rattle.std.proofs.lemmas.List.{take_at, drop_all, length-append, take_all, drop_at, drop-drop, take-append-drop, length-drop}
 use Rattle.columns.specs.Faults.{at_column}
 use Rattle.columns.specs.declared.refusal.ReadRefusal.{ReadRefusal}
-use Rattle.columns.proofs.Laws.{clash}
 
 pub at_ok : {T : Type 0} (k : ℕ) (r : Result T ReadRefusal) (x : T) → at_column k r ≡ Ok x → r ≡ Ok x
 at_ok k (Ok y) x e = let f : y ≡ x = cc in ap (λ z. Ok z) f
-at_ok k (Err w) x e = clash (cc)
+at_ok k (Err w) x e = cc
 
 -- the first field, and what is behind it
 pub first : (a rest : List ℕ) (n : ℕ) → length a ≡ n → take n (a ++ rest) ≡ a

@@ -12,7 +12,7 @@ use Rattle.columns.specs.Number.{text, field}
 use Rattle.columns.specs.Reading.{unsigned_reading, signed_reading}
 use Rattle.columns.specs.declared.fault.ColumnFault.{ColumnFault}
 use Rattle.columns.specs.declared.refusal.WriteRefusal.TheVariants.{Range}
-use Rattle.columns.proofs.Laws.{clash, length_text, length_text_below, text_below, text_above, length_field, printed_field, unsigned_back, unsigned_only, signed_back, signed_only, true_leZ, leZ_true}
+use Rattle.columns.proofs.Laws.{length_text, length_text_below, text_below, text_above, length_field, printed_field, unsigned_back, unsigned_only, signed_back, signed_only, true_leZ, leZ_true}
 use Rattle.items.specs.ItemText.{Printed}
 use Rattle.items.specs.Patch.{face_most, zone_most, level_least, level_most, patch_fits, patch_columns, patch_text, patch_of, patch_reading}
 use Rattle.items.specs.declared.patch.Patch.{Patch}
@@ -41,7 +41,7 @@ unfolding patch_text
 text_is p cs e =
     elim (cases_Bool (patch_fits p)) [
       | inl is ↦ let f : Some (patch_columns p) ≡ Some cs = sym (cond-true _ _ _ is) ∙ e in (fits_true p is, cc)
-      | inr is ↦ let f : None ≡ Some cs = sym (cond-false _ _ _ is) ∙ e in clash (cc)
+      | inr is ↦ let f : None ≡ Some cs = sym (cond-false _ _ _ is) ∙ e in cc
     ]
 
 pub is_text : (p : Patch) → Fits p → patch_text p ≡ Some (patch_columns p)
@@ -84,9 +84,9 @@ pub patch_back : (p : Patch) (cs : List ℕ) → patch_text p ≡ Some cs → pa
 patch_back p cs e = let h = text_is p cs e in ap patch_reading (sym h.1) ∙ patch_back_at p h.0
 
 parts_of : (x y : Result ℕ ColumnFault) (z : Result ℤ ColumnFault) (p : Patch) → patch_of x y z ≡ Ok p → (x ≡ Ok p.face) × (y ≡ Ok p.zone) × (z ≡ Ok p.level)
-parts_of (Err e) y z p h = clash (cc)
-parts_of (Ok f) (Err e) z p h = clash (cc)
-parts_of (Ok f) (Ok g) (Err e) p h = clash (cc)
+parts_of (Err e) y z p h = cc
+parts_of (Ok f) (Err e) z p h = cc
+parts_of (Ok f) (Ok g) (Err e) p h = cc
 parts_of (Ok f) (Ok g) (Ok l) p h = let e : record { face = f; zone = g; level = l } ≡ p = cc in (ap (λ q. Ok q.face) e, ap (λ q. Ok q.zone) e, ap (λ q. Ok q.level) e)
 
 pub patch_only : (cs : List ℕ) (p : Patch) → length cs ≡ 15 → patch_reading cs ≡ Ok p → patch_text p ≡ Some cs

@@ -10,16 +10,13 @@ use Rattle.columns.specs.Row.{row_text, row_fits}
 use Rattle.columns.proofs.Rows.{length_row}
 use Rattle.lines.specs.CallLine.{Reply, reply_item, blanks, shown, call_fields, line_of, call_line, line_put, call_written}
 
-pub clash : {A : Type 0} → ◌≡◌ {A = ℕ} 0 1 → A
-clash e = absurd (omega arith)
-
 pub chosen : {X E : Type 0} (o : Option X) (e : E) (x : X) → ok_or o e ≡ Ok x → o ≡ Some x
-chosen None e x p = clash (cc)
+chosen None e x p = cc
 chosen (Some y) e x p = let same : y ≡ x = cc in ap Some same
 
 pub not_chosen : {X E : Type 0} (o : Option X) (e d : E) → ok_or o e ≡ Err d → (o ≡ None) × (d ≡ e)
 not_chosen None e d p = let same : d ≡ e = cc in (refl, same)
-not_chosen (Some y) e d p = clash (cc)
+not_chosen (Some y) e d p = cc
 
 -- numbers in 29 columns, an item in 15, and an LF
 pub three_parts : (row item buffer : List ℕ) → length row ≡ 29 → length item ≡ 15 → 45 ≤ length buffer
@@ -48,7 +45,7 @@ pub line_done : (line : Option (List ℕ)) (buffer after : List ℕ) (u : Unit {
     → ◌≡◌ {A = Result (Unit {0}) WriteRefusal × List ℕ} (Ok u, after) (call_written line buffer) → line ≡ Some after
 line_done line buffer after u room wide said = go line refl (said ∙ cond-false (ltb (length buffer) 45) _ _ (le-ltb (length buffer) 45 (omega arith))) where
   go : (x : Option (List ℕ)) → line ≡ x → ◌≡◌ {A = Result (Unit {0}) WriteRefusal × List ℕ} (Ok u, after) (line_put x buffer) → line ≡ Some after
-  go None is e = let no' = ap (λ x. x.0) e in clash (cc)
+  go None is e = let no' = ap (λ x. x.0) e in cc
   go (Some cs) is e = is ∙ ap Some (sym (ap (λ x. x.1) e ∙ (ap (λ x. cs ++ x) (drop_all (length cs) buffer (omega (arith, wide cs is))) ∙ append-nil cs)))
 
 pub line_refused : (line : Option (List ℕ)) (buffer after : List ℕ) (f : WriteRefusal) → length buffer ≡ 45
@@ -56,13 +53,13 @@ pub line_refused : (line : Option (List ℕ)) (buffer after : List ℕ) (f : Wri
 line_refused line buffer after f room said = go line refl (said ∙ cond-false (ltb (length buffer) 45) _ _ (le-ltb (length buffer) 45 (omega arith))) where
   go : (x : Option (List ℕ)) → line ≡ x → ◌≡◌ {A = Result (Unit {0}) WriteRefusal × List ℕ} (Err f, after) (line_put x buffer) → line ≡ None
   go None is e = is
-  go (Some cs) is e = let no' = ap (λ x. x.0) e in clash (cc)
+  go (Some cs) is e = let no' = ap (λ x. x.0) e in cc
 
 -- it has 44 columns and an LF
 pub line_wide : {I : Type 0} (text : I → Option (List ℕ)) → ((x : I) (cs : List ℕ) → text x ≡ Some cs → length cs ≡ 15) → (n : ℕ) (w : WorkerNo) (r : Reply I) (cs : List ℕ) → call_line text n w r ≡ Some cs → length cs ≡ 45
 line_wide text wide n w r cs e = go (shown text (reply_item r)) refl where
   go : (x : Option (List ℕ)) → shown text (reply_item r) ≡ x → length cs ≡ 45
-  go None is = let no' = ap (line_of (call_fields n w r)) (sym is) ∙ e in clash (cc)
+  go None is = let no' = ap (line_of (call_fields n w r)) (sym is) ∙ e in cc
   go (Some item) is =
       let here = ap (line_of (call_fields n w r)) (sym is) ∙ e in
       elim (cases_Bool (row_fits (call_fields n w r))) [
@@ -71,5 +68,5 @@ line_wide text wide n w r cs e = go (shown text (reply_item r)) refl where
             let same : row_text (call_fields n w r) ++ (item ++ (10 ∷ [])) ≡ cs = cc in
             sym (ap length same)
             ∙ (length-append (row_text (call_fields n w r)) (item ++ (10 ∷ [])) ∙ omega (arith, length_row (call_fields n w r) fits, length-append item (10 ∷ []), shown_wide text wide (reply_item r) item is))
-        | inr no_fit ↦ let no' = sym (cond-false (row_fits (call_fields n w r)) _ _ no_fit) ∙ here in clash (cc)
+        | inr no_fit ↦ let no' = sym (cond-false (row_fits (call_fields n w r)) _ _ no_fit) ∙ here in cc
       ]

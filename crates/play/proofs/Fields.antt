@@ -14,9 +14,6 @@ use Rattle.play.specs.declared.letter.OrderLetter.TheVariants.{Enqueue, Dequeue,
 use Rattle.play.specs.Letters.{letter_of, code_of}
 use Rattle.play.specs.Text.{Within}
 
-pub clash : {A : Type 0} → ◌≡◌ {A = ℕ} 0 1 → A
-clash e = absurd (omega arith)
-
 -- a letter has one code
 pub letter_code : (c : ℕ) (x : Letter) → letter_of c ≡ Some x → c ≡ code_of x
 letter_code c Ring e = grind (arith, nat_tests)
@@ -26,7 +23,7 @@ letter_code c (Order Steps) e = grind (arith, nat_tests)
 
 at_column_ok : (c n : ℕ) (r : Result ℕ ReadRefusal) → at_column c r ≡ Ok n → r ≡ Ok n
 at_column_ok c n (Ok m) e = let same : m ≡ n = cc in ap Ok same
-at_column_ok c n (Err f) e = clash (cc)
+at_column_ok c n (Err f) e = cc
 
 -- a field that was read is the text of its number
 pub field_only : (first w least most : ℕ) (line : List ℕ) (n : ℕ) → at_column first (unsigned_reading least most (take w (drop (first - 1) line))) ≡ Ok n → first - 1 + w ≤ length line
@@ -55,13 +52,13 @@ pub last_part : (m n : ℕ) (cs : List ℕ) → length cs ≡ m + n → take n (
 last_part m n cs h = take_all n (drop m cs) (omega (arith, length-drop m cs))
 
 pub never_both : {A T E : Type 0} (e : E) (x : T) → ◌≡◌ {A = Result T E} (Err e) (Ok x) → A
-never_both e x p = clash (cc)
+never_both e x p = cc
 
 -- a value that is kept where its error is let go
 pub told_ok : {T E : Type 0} (r : Result T E) (x : T) → result_ok r ≡ Some x → r ≡ Ok x
 told_ok (Ok y) x e = let same : y ≡ x = cc in ap Ok same
-told_ok (Err f) x e = clash (cc)
+told_ok (Err f) x e = cc
 
 pub told_none : {T E : Type 0} (r : Result T E) → result_ok r ≡ None → (f : E) × (r ≡ Err f)
-told_none (Ok y) e = clash (cc)
+told_none (Ok y) e = cc
 told_none (Err f) e = (f, refl)

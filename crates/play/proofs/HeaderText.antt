@@ -20,7 +20,7 @@ use Rattle.play.specs.Faults.{at_line}
 use Rattle.play.specs.Orders.{ring_choice, item_choice, field_reading, header_from, header_reading}
 use Rattle.play.specs.Play.{first_letter, letter_in, whole, header_opened, header_line}
 use Rattle.play.specs.Text.{Within, HeaderFits, ring_number, item_number, header_columns}
-use Rattle.play.proofs.Fields.{clash, letter_code, field_only, field_back, wide_field, by_first, by_parts, last_part}
+use Rattle.play.proofs.Fields.{letter_code, field_only, field_back, wide_field, by_first, by_parts, last_part}
 use Rattle.play.proofs.OrderText.{Printed}
 
 ring_numbered : (n : ℕ) → Within 1 2 n → n ≡ ring_number (ring_choice n)
@@ -57,10 +57,10 @@ pub record HeaderParts (r c w i : Result ℕ ColumnFault) (h : Header) : Type 0 
   pub is : h ≡ record { ring = ring_choice ring; cells = cells; workers = workers; items = item_choice items }
 
 parts : (r c w i : Result ℕ ColumnFault) (h : Header) → header_from r c w i ≡ Ok h → HeaderParts r c w i h
-parts (Err f) c w i h e = clash (cc)
-parts (Ok r) (Err f) w i h e = clash (cc)
-parts (Ok r) (Ok c) (Err f) i h e = clash (cc)
-parts (Ok r) (Ok c) (Ok w) (Err f) h e = clash (cc)
+parts (Err f) c w i h e = cc
+parts (Ok r) (Err f) w i h e = cc
+parts (Ok r) (Ok c) (Err f) i h e = cc
+parts (Ok r) (Ok c) (Ok w) (Err f) h e = cc
 parts (Ok r) (Ok c) (Ok w) (Ok i) h e =
     let is : h ≡ record { ring = ring_choice r; cells = c; workers = w; items = item_choice i } = cc in
     record { ring = r; cells = c; workers = w; items = i; ring_read = refl; cells_read = refl; workers_read = refl; items_read = refl; is = is }
@@ -88,7 +88,7 @@ pub header_only : (l : Line) (h : Header) → header_line l ≡ Ok h → (l.colu
 header_only l h e = go (letter_in l) refl where
   at_line_ok : (r : Result Header LineFault) → at_line r 1 ≡ Ok h → r ≡ Ok h
   at_line_ok (Ok p) q = let same : p ≡ h = cc in ap Ok same
-  at_line_ok (Err f) q = clash (cc)
+  at_line_ok (Err f) q = cc
 
   opened : letter_in l ≡ Some Ring → header_opened l (Ok tt) ≡ Ok h → (l.columns ≡ header_columns h) × (l.ended ≡ true) × HeaderFits h
   opened is q =
@@ -97,12 +97,12 @@ header_only l h e = go (letter_in l) refl where
             let p = and_parts (eqb (length l.columns) 14) l.ended w in
             let c = columns_only l.columns h (letter_code (get_or l.columns 0 LF) Ring is) (eqb-true (length l.columns) 14 p.0) (at_line_ok (header_reading l.columns) (sym (cond-true (whole 14 l) _ _ w) ∙ q)) in
             (c.0, p.1, c.1)
-        | inr w ↦ let cut = sym (cond-false (whole 14 l) _ _ w) ∙ q in clash (cc)
+        | inr w ↦ let cut = sym (cond-false (whole 14 l) _ _ w) ∙ q in cc
       ]
 
   go : (x : Option Letter) → letter_in l ≡ x → (l.columns ≡ header_columns h) × (l.ended ≡ true) × HeaderFits h
-  go None is = let q = ap (λ x. header_opened l (first_letter x)) (sym is) ∙ e in clash (cc)
-  go (Some (Order k)) is = let q = ap (λ x. header_opened l (first_letter x)) (sym is) ∙ e in clash (cc)
+  go None is = let q = ap (λ x. header_opened l (first_letter x)) (sym is) ∙ e in cc
+  go (Some (Order k)) is = let q = ap (λ x. header_opened l (first_letter x)) (sym is) ∙ e in cc
   go (Some Ring) is = opened is (ap (λ x. header_opened l (first_letter x)) (sym is) ∙ e)
 
 pub header_printed : (h : Header) → Printed (header_columns h)

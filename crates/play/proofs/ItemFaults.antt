@@ -10,7 +10,6 @@ use Rattle.columns.specs.Reading.{unsigned_reading, signed_reading}
 use Rattle.items.specs.declared.job.Job.{Job}
 use Rattle.items.specs.declared.job.Job.TheVariants.{Block, Sweep, Flush, Stop}
 use Rattle.items.specs.Patch.{face_width, face_most, zone_width, zone_start, zone_most, level_width, level_start, level_least, level_most, patch_of, patch_reading}
-use Rattle.play.proofs.Fields.{clash}
 use Rattle.items.specs.Job.{number_width, word_width, block_word, sweep_word, flush_word, stop_word, number_reading, numbered, bare, job_of, job_reading}
 
 -- where there is a fault, it stands at column 1 to 15
@@ -62,7 +61,7 @@ unfolding job_reading
 job_placed cs = word_placed (take word_width cs) (take number_width (drop word_width cs))
 
 pub placed_fault : {X : Type 0} (r : Result X ColumnFault) (f : ColumnFault) → result_err r ≡ Some f → Placed r → f.column ≤ 15
-placed_fault (Ok x) f e h = clash (cc)
+placed_fault (Ok x) f e h = cc
 placed_fault (Err g) f e (there k h) = let same : k ≡ f = cc in omega (arith, ap (λ (x : ColumnFault). x.column) same)
 
 -- a fault that is passed on is the reading's

@@ -9,12 +9,11 @@ use Rattle.play.specs.declared.header.ItemChoice.{ItemChoice}
 use Rattle.play.specs.declared.header.ItemChoice.TheVariants.{Patch, Job}
 use Rattle.play.specs.Orders.{checked, item_check}
 use Rattle.play.specs.Text.{ItemColumns}
-use Rattle.play.proofs.Fields.{clash}
 use Rattle.play.proofs.OrderText.{ItemLaws, Printed}
 
 item_read : {X : Type 0} (r : Result X ColumnFault) → checked r ≡ Ok tt → (x : X) × (r ≡ Ok x)
 item_read (Ok x) e = (x, refl)
-item_read (Err f) e = clash (cc)
+item_read (Err f) e = cc
 
 only : (items : ItemChoice) (cs : List ℕ) → length cs ≡ 15 → item_check items cs ≡ Ok tt → ItemColumns items cs
 only Patch cs n e = let r = item_read (patch_reading cs) e in (r.0, patch_only cs r.0 n r.1)

@@ -13,13 +13,13 @@ use Rattle.play.specs.Orders.{PlainOrder, plain, order_reading}
 use Rattle.play.specs.Play.{order_letter, order_line}
 use Rattle.play.specs.Promise.{FirstOrder}
 use Rattle.play.specs.Text.{OrderFits, OrdersFit, order_columns, order_text, orders_text}
-use Rattle.play.proofs.Fields.{clash, letter_code}
+use Rattle.play.proofs.Fields.{letter_code}
 use Rattle.play.proofs.OrderText.{ItemLaws, Shape, order_shape, order_printed, columns_only, line_back, code_letter}
 use Rattle.play.proofs.PlayText.{text_line}
 
 letter_opened : (n : ℕ) (x : Option Letter) (k : OrderLetter) → order_letter n x ≡ Ok k → x ≡ Some (Order k)
-letter_opened n None k e = clash (cc)
-letter_opened n (Some Ring) k e = clash (cc)
+letter_opened n None k e = cc
+letter_opened n (Some Ring) k e = cc
 letter_opened n (Some (Order j)) k e = let same : j ≡ k = cc in ap (λ x. Some (Order x)) same
 
 width_some : (k : OrderLetter) → 0 < width_of (Order k)

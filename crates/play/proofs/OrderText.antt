@@ -19,7 +19,7 @@ use Rattle.play.specs.Faults.{at_line}
 use Rattle.play.specs.Orders.{PlainOrder, enqueue, dequeue, steps, field_reading, item_check, enqueue_from, dequeue_from, steps_from, order_reading}
 use Rattle.play.specs.Play.{order_letter, letter_in, whole, order_opened, order_line}
 use Rattle.play.specs.Text.{ItemColumns, OrderFits, order_columns}
-use Rattle.play.proofs.Fields.{clash, letter_code, field_only, field_back, wide_field, by_first, by_parts, last_part}
+use Rattle.play.proofs.Fields.{letter_code, field_only, field_back, wide_field, by_first, by_parts, last_part}
 
 abbrev pub Printed : List ℕ → Type 0
 Printed cs = AllByRecursion (λ b. (32 ≤ b) × (b ≤ 126)) cs
@@ -39,17 +39,17 @@ pub record Enqueued (a : Result ℕ ColumnFault) (b : Result (Unit {0}) ColumnFa
   pub is : o ≡ enqueue (record { 0 = worker }) cs
 
 enqueued : (a : Result ℕ ColumnFault) (b : Result (Unit {0}) ColumnFault) (cs : List ℕ) (o : PlainOrder) → enqueue_from a b cs ≡ Ok o → Enqueued a b cs o
-enqueued (Err f) b cs o e = clash (cc)
-enqueued (Ok w) (Err f) cs o e = clash (cc)
+enqueued (Err f) b cs o e = cc
+enqueued (Ok w) (Err f) cs o e = cc
 enqueued (Ok w) (Ok u) cs o e = let is : o ≡ enqueue (record { 0 = w }) cs = cc in record { worker = w; worker_read = refl; item_read = refl; is = is }
 
 dequeued : (a : Result ℕ ColumnFault) (o : PlainOrder) → dequeue_from a ≡ Ok o → (w : ℕ) × (a ≡ Ok w) × (o ≡ dequeue (record { 0 = w }))
-dequeued (Err f) o e = clash (cc)
+dequeued (Err f) o e = cc
 dequeued (Ok w) o e = let is : o ≡ dequeue (record { 0 = w }) = cc in (w, refl, is)
 
 stepped : (a b : Result ℕ ColumnFault) (o : PlainOrder) → steps_from a b ≡ Ok o → (w : ℕ) × (n : ℕ) × (a ≡ Ok w) × (b ≡ Ok n) × (o ≡ steps (record { 0 = w }) n)
-stepped (Err f) b o e = clash (cc)
-stepped (Ok w) (Err f) o e = clash (cc)
+stepped (Err f) b o e = cc
+stepped (Ok w) (Err f) o e = cc
 stepped (Ok w) (Ok n) o e = let is : o ≡ steps (record { 0 = w }) n = cc in (w, n, refl, refl, is)
 
 pub code_letter : (k : OrderLetter) → letter_of (code_of (Order k)) ≡ Some (Order k)
@@ -90,7 +90,7 @@ module _ (laws : ItemLaws) (items : ItemChoice) where
   line_only n l o e = go (letter_in l) refl where
     at_line_ok : (r : Result PlainOrder LineFault) → at_line r n ≡ Ok o → r ≡ Ok o
     at_line_ok (Ok p) h = let same : p ≡ o = cc in ap Ok same
-    at_line_ok (Err f) h = clash (cc)
+    at_line_ok (Err f) h = cc
 
     opened : (k : OrderLetter) → letter_in l ≡ Some (Order k) → order_opened items n l (Ok k) ≡ Ok o → (l.columns ≡ order_columns o) × (l.ended ≡ true) × OrderFits items o
     opened k is h =
@@ -100,12 +100,12 @@ module _ (laws : ItemLaws) (items : ItemChoice) where
               let read = at_line_ok (order_reading items k l.columns) (sym (cond-true (whole (width_of (Order k)) l) _ _ w) ∙ h) in
               let c = columns_only k l.columns o (letter_code (get_or l.columns 0 LF) (Order k) is) (eqb-true (length l.columns) (width_of (Order k)) p.0) read in
               (c.0, p.1, c.1)
-          | inr w ↦ let cut = sym (cond-false (whole (width_of (Order k)) l) _ _ w) ∙ h in clash (cc)
+          | inr w ↦ let cut = sym (cond-false (whole (width_of (Order k)) l) _ _ w) ∙ h in cc
         ]
 
     go : (x : Option Letter) → letter_in l ≡ x → (l.columns ≡ order_columns o) × (l.ended ≡ true) × OrderFits items o
-    go None is = let h = ap (λ x. order_opened items n l (order_letter n x)) (sym is) ∙ e in clash (cc)
-    go (Some Ring) is = let h = ap (λ x. order_opened items n l (order_letter n x)) (sym is) ∙ e in clash (cc)
+    go None is = let h = ap (λ x. order_opened items n l (order_letter n x)) (sym is) ∙ e in cc
+    go (Some Ring) is = let h = ap (λ x. order_opened items n l (order_letter n x)) (sym is) ∙ e in cc
     go (Some (Order k)) is = opened k is (ap (λ x. order_opened items n l (order_letter n x)) (sym is) ∙ e)
 
   pub order_printed : (o : PlainOrder) → OrderFits items o → Printed (order_columns o)

@@ -8,7 +8,6 @@ use Rattle.play.specs.Lines.{LF, Line, in_front, lines_of}
 use Rattle.play.specs.Orders.{PlainOrder}
 use Rattle.play.specs.Play.{PlainPlay, order_line, before, order_lines, with_orders, header_line, play_from, play_lines, longest, play_reading}
 use Rattle.play.specs.Text.{OrdersFit, PlayFits, order_columns, order_text, orders_text, header_columns, header_text, play_text, TextLaw}
-use Rattle.play.proofs.Fields.{clash}
 use Rattle.play.proofs.Lines.{end_text, line_text, lines_text, text_of_lines}
 use Rattle.play.proofs.OrderText.{Printed, ItemLaws, line_only, line_back, order_printed}
 use Rattle.play.proofs.HeaderText.{header_only, header_back, header_printed}
@@ -31,8 +30,8 @@ module _ (laws : ItemLaws) (items : ItemChoice) where
   orders_only n (l ∷ ls) os e = go (order_line items n l) (order_lines items (suc n) ls) refl refl e (orders_only (suc n) ls) where
     go : (r : Result PlainOrder PlayFault) (rs : Result (List PlainOrder) PlayFault) → order_line items n l ≡ r → order_lines items (suc n) ls ≡ rs → before r rs ≡ Ok os
         → ((more : List PlainOrder) → order_lines items (suc n) ls ≡ Ok more → (lines_text ls ≡ orders_text more) × OrdersFit items more) → (lines_text (l ∷ ls) ≡ orders_text os) × OrdersFit items os
-    go (Err f) rs p q h others = clash (cc)
-    go (Ok o) (Err f) p q h others = clash (cc)
+    go (Err f) rs p q h others = cc
+    go (Ok o) (Err f) p q h others = cc
     go (Ok o) (Ok more) p q h others =
         let is : o ∷ more ≡ os = cc in
         let first = line_only laws items n l o p in
@@ -48,10 +47,10 @@ module _ (laws : ItemLaws) (items : ItemChoice) where
 
 module _ (laws : ItemLaws) where
   lines_only : (ls : List Line) (p : PlainPlay) → play_lines ls ≡ Ok p → (lines_text ls ≡ play_text p) × PlayFits p
-  lines_only [] p e = clash (cc)
+  lines_only [] p e = cc
   lines_only (l ∷ ls) p e = go (header_line l) refl e where
     behind : (h : Header) (rs : Result (List PlainOrder) PlayFault) → header_line l ≡ Ok h → order_lines h.items 2 ls ≡ rs → with_orders h rs ≡ Ok p → (lines_text (l ∷ ls) ≡ play_text p) × PlayFits p
-    behind h (Err f) hd q e = clash (cc)
+    behind h (Err f) hd q e = cc
     behind h (Ok os) hd q e =
         let is : record { header = h; orders = os } ≡ p = cc in
         let first = header_only l h hd in
@@ -59,13 +58,13 @@ module _ (laws : ItemLaws) where
         (ap (λ x. x ++ lines_text ls) (own_text l (header_columns h) first.0 first.1) ∙ ap (λ x. header_text h ++ x) rest.0 ∙ ap play_text is, subst PlayFits is (first.2, rest.1))
 
     go : (r : Result Header PlayFault) → header_line l ≡ r → play_from r ls ≡ Ok p → (lines_text (l ∷ ls) ≡ play_text p) × PlayFits p
-    go (Err f) hd e = clash (cc)
+    go (Err f) hd e = cc
     go (Ok h) hd e = behind h (order_lines h.items 2 ls) hd refl e
 
   pub play_only : (bytes : List ℕ) (p : PlainPlay) → play_reading bytes ≡ Ok p → (bytes ≡ play_text p) × PlayFits p
   play_only bytes p e =
       elim (cases_Bool (ltb longest (length bytes))) [
-        | inl long ↦ let h = sym (cond-true (ltb longest (length bytes)) _ _ long) ∙ e in clash (cc)
+        | inl long ↦ let h = sym (cond-true (ltb longest (length bytes)) _ _ long) ∙ e in cc
         | inr short ↦
             let r = lines_only (lines_of bytes) p (sym (cond-false (ltb longest (length bytes)) _ _ short) ∙ e) in
             (sym (text_of_lines bytes) ∙ r.0, r.1)
