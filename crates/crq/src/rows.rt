@@ -125,7 +125,7 @@ fn d8<I: Copy>(
     pass_over(worker)
 }
 
-// The row that is due. CRQ has no others.
+// The row that is due; CRQ has no others. A match: the machine of a worker goes by its own phase and what the cell shows.
 pub(crate) fn take_turn<I: Copy>(
     due: Due,
     worker: &mut Worker<I>,

@@ -116,7 +116,7 @@ fn tail_read<I: Copy>(control: &Control, worker: &mut Worker<I>) -> Result<Answe
     Ok(Answer::Working)
 }
 
-// The row of the engine that the worker stands at.
+// The row of the engine that the worker stands at. A match: the machine of a worker goes by its own phase.
 fn engine_row_of<I: Copy>(
     control: &mut Control,
     worker: &mut Worker<I>,

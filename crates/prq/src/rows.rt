@@ -170,7 +170,7 @@ fn d8<I: Copy>(
     pass_over(worker)
 }
 
-// The row that is due.
+// The row that is due. A match: the machine of a worker goes by its own phase and what the cell shows.
 pub(crate) fn take_turn<I: Copy>(
     due: Due,
     worker: &mut Worker<I>,
