@@ -34,7 +34,8 @@ fn kind_turn<I: Copy, K: RingKind<I>>(
 }
 
 impl<'m, I: Copy, K: RingKind<I>> Table<'m, I, K> {
-    // Performs one row for one worker.
+    // Performs one row for one worker. Inlined, so that a caller's own sizes of memory serve in the division by R.
+    #[inline(always)]
     pub fn step(&mut self, number: WorkerNo) -> Result<Answer<I>, Refusal>
         ensures memory { SameMemory self.old self.new }
         ensures rows { left_by self.new result ≡ called K.RingKind.step (table_of self.old) (Step number) }
@@ -44,20 +45,26 @@ impl<'m, I: Copy, K: RingKind<I>> Table<'m, I, K> {
     }
 
     // The row of the worker's phase: the engine's, or the ring kind's. The books are shown from it at one place, above.
+    #[inline(always)]
     fn perform(&mut self, number: WorkerNo) -> Result<Answer<I>, Refusal>
         ensures memory { SameMemory self.old self.new }
         ensures rows { left_by self.new result ≡ stepped K.RingKind.step (table_of self.old) number }
     {
         let at = self.record_of(number)?;
+        let mut control = self.control;
         let cells = &mut *self.cells;
         let workers = &mut *self.workers;
         match workers[at].phase {
             Phase::Idle => Err(Refusal::Idle),
-            Phase::Engine(row) => engine_turn(&mut self.control, &mut workers[at], row),
+            Phase::Engine(row) => {
+                let reply = engine_turn(&mut control, &mut workers[at], row);
+                self.control = control;
+                reply
+            }
             Phase::Kind(row) => {
-                let slot = workers[at].ticket.slot(self.control.cells);
+                let slot = workers[at].ticket.slot(control.cells);
                 let (worker, cell) = (&mut workers[at], &mut cells[slot]);
-                kind_turn(self.kind, &self.control, number, row, worker, cell)
+                kind_turn(self.kind, &control, number, row, worker, cell)
             }
         }
     }

@@ -6,8 +6,8 @@ use Rattle.calls.proofs.table.Table.perform.Goals as goal
 
 pub returns-in-Engine-clause-rows : goal.returns-in-Engine-clause-rows
 returns-in-Engine-clause-rows g c =
-    engine_done g.K.RingKind.step (table_of c.args.self.now) c.args.number c.in_ok-at.at _ _ c.in-Engine.row c.engine_turn.result
-    (counters c.engine_turn.new.control) c.engine_turn.new.worker c.in_ok-at.ensures c.in-Engine.is c.engine_turn.ensures
+    engine_done g.K.RingKind.step (table_of c.args.self.now) c.args.number c.in_ok-at.at _ _ c.in-Engine.row c.engine_turn-reply.result
+    (counters c.engine_turn-reply.new.control) c.engine_turn-reply.new.worker c.in_ok-at.ensures c.in-Engine.is c.engine_turn-reply.ensures
 
 pub returns-in-Kind-clause-rows : goal.returns-in-Kind-clause-rows
 returns-in-Kind-clause-rows g c =
