@@ -83,10 +83,7 @@ fn tell(rt: &HostRuntime, run: u8, reply: Result<Answer<u8>, Refusal>, step: u8)
     if let Ok(Answer::Working) = reply {
         return Ok(());
     }
-    let number = match reply {
-        Ok(answer) => answer.number(),
-        Err(refusal) => refusal.number(),
-    };
+    let number = reply_number(reply);
     let ticket = reply.ok().and_then(|answer| answer.ticket());
     let ticket = ticket.map_or(0, |ticket| ticket.0);
     println!(rt; "{run:>3} {number:>6} {ticket:>6} {step:>4}")

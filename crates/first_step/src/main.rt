@@ -25,9 +25,6 @@ fn first_step() -> Result<Answer<u8>, Refusal> {
 }
 
 fn main(rt: HostRuntime) -> io::Result<()> {
-    let number = match first_step() {
-        Ok(answer) => answer.number(),
-        Err(refusal) => refusal.number(),
-    };
+    let number = reply_number(first_step());
     println!(rt; "a first step answers {number}")
 }

@@ -17,14 +17,6 @@ use ring::table::*;
 use std::io;
 use tickets::*;
 
-// The number of what a call came to.
-fn number(reply: Result<Answer<u32>, Refusal>) -> u8 {
-    match reply {
-        Ok(answer) => answer.number(),
-        Err(refusal) => refusal.number(),
-    }
-}
-
 // One step of a worker on a ring of one cell with the largest epoch and the token of nobody.
 fn stepped<K: RingKind<u32>>(kind: &K, control: Control, worker: Worker<u32>) -> u8 {
     let mut cells = [Cell {
@@ -40,7 +32,7 @@ fn stepped<K: RingKind<u32>>(kind: &K, control: Control, worker: Worker<u32>) ->
         cells: &mut cells,
         workers: &mut [worker],
     };
-    number(table.step(WorkerNo(1)))
+    reply_number(table.step(WorkerNo(1)))
 }
 
 // A name, and the phase, the item and the ticket of a worker in the middle of an operation.
@@ -113,15 +105,15 @@ fn misfits(rt: &HostRuntime, control: Control) -> io::Result<()> {
         cells: &mut two,
         workers: &mut workers,
     };
-    let counts = number(misfit.step(WorkerNo(1)));
+    let counts = reply_number(misfit.step(WorkerNo(1)));
     let mut table = Table {
         cells: &mut one,
         ..misfit
     };
-    let nobody = number(table.step(WorkerNo(0)));
-    let above = number(table.assign_dequeue(WorkerNo(2)));
-    let first = number(table.assign_enqueue(WorkerNo(1), 7));
-    let busy = number(table.assign_dequeue(WorkerNo(1)));
+    let nobody = reply_number(table.step(WorkerNo(0)));
+    let above = reply_number(table.assign_dequeue(WorkerNo(2)));
+    let first = reply_number(table.assign_enqueue(WorkerNo(1), 7));
+    let busy = reply_number(table.assign_dequeue(WorkerNo(1)));
     println!(rt;
         "counts {counts}, worker 0 {nobody}, worker 2 of 1 {above}, assigned {first}, busy {busy}"
     )

@@ -9,7 +9,7 @@ use Rattle.columns.specs.Row.{row_text, row_fits}
 use Rattle.columns.specs.Writing.{put}
 use Rattle.ring.specs.declared.answers.Answer.{Answer}
 use Rattle.ring.specs.declared.answers.Refusal.{Refusal}
-use Rattle.ring.specs.Answers.{answer_number, answer_ticket, answer_item, refusal_number}
+use Rattle.ring.specs.Answers.{answer_ticket, answer_item, reply_number}
 
 -- what a call came to
 abbrev pub Reply : Type 0 → Type 0
@@ -21,11 +21,6 @@ number_or_0 None = 0
 number_or_0 (Some k) = k.0
 
 module _ {I : Type 0} where
-  -- the number of the answer or of the refusal
-  abbrev pub reply_number : Reply I → ℕ
-  reply_number (Ok a) = answer_number a
-  reply_number (Err r) = refusal_number r
-
   -- the ticket that an answer carries; a refusal has 0
   abbrev pub reply_ticket : Reply I → ℕ
   reply_ticket (Ok a) = number_or_0 (answer_ticket a)

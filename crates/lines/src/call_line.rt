@@ -2,11 +2,11 @@
 ghost use Rattle.std.specs.Prelude.{◌≡◌};
 ghost use Rattle.std.specs.Option.{ok_or};
 ghost use Rattle.columns.specs.declared.refusal.WriteRefusal.TheVariants.{Range};
-ghost use Rattle.lines.specs.CallLine.{call_fields, call_line, call_written, is_printed, reply_item, reply_number, reply_ticket, shown};
+ghost use Rattle.lines.specs.CallLine.{call_fields, call_line, call_written, is_printed, reply_item, reply_ticket, shown};
 
 use columns::{Field, WriteRefusal, write_row};
 use items::{ITEM_WIDTH, ItemKind};
-use ring::answers::{Answer, Refusal};
+use ring::answers::{Answer, Refusal, reply_number};
 use tickets::WorkerNo;
 
 // The item's columns: how many stand before them, those of the numbers, and where they end.
@@ -16,12 +16,6 @@ const ITEM_END: usize = ITEM_START + ITEM_WIDTH;
 
 // How many bytes a call line has, with its LF.
 pub const CALL_LINE: usize = ITEM_END + 1;
-
-fn number_of<I: Copy>(reply: Result<Answer<I>, Refusal>) -> u8
-    ensures { result ≡ reply_number reply }
-{
-    reply.map_or_else(|refusal| refusal.number(), |answer| answer.number())
-}
 
 fn ticket_of<I: Copy>(reply: Result<Answer<I>, Refusal>) -> u64
     ensures { result ≡ reply_ticket reply }
@@ -71,7 +65,7 @@ fn call_fields<I: Copy>(
         },
         Field {
             width: 3,
-            number: u64::from(number_of(reply)),
+            number: u64::from(reply_number(reply)),
         },
         Field {
             width: 13,

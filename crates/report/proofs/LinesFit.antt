@@ -14,7 +14,7 @@ use Rattle.ring.specs.declared.call.Call.TheVariants.{AssignEnqueue, AssignDeque
 use Rattle.ring.specs.declared.table.Cell.{Cell}
 use Rattle.ring.specs.declared.table.Value.{Value}
 use Rattle.ring.specs.declared.table.Value.TheVariants as value
-use Rattle.ring.specs.Answers.{answer_item, answer_ticket}
+use Rattle.ring.specs.Answers.{answer_item, answer_ticket, reply_number}
 use Rattle.ring.specs.Calls.{called}
 use Rattle.ring.specs.Ledger.{run}
 use Rattle.ring.specs.Origin.{Assigns, ItemsAssigned}
@@ -22,7 +22,7 @@ use Rattle.ring.specs.Table.{Table, InRange, counter_limit, one_if, occupied, oc
 use Rattle.ring.specs.Turns.{KindStep}
 use Rattle.ring.proofs.Equals.{clash}
 use Rattle.ring.proofs.Orderly.{Orderly}
-use Rattle.lines.specs.CallLine.{Reply, number_or_0, reply_number, reply_ticket, reply_item, is_printed, call_fields, shown, line_of, call_line}
+use Rattle.lines.specs.CallLine.{Reply, number_or_0, reply_ticket, reply_item, is_printed, call_fields, shown, line_of, call_line}
 use Rattle.lines.specs.LastLine.{bit}
 use Rattle.play.specs.declared.header.ItemChoice.{ItemChoice}
 use Rattle.play.specs.Orders.{PlainOrder, enqueue, dequeue, steps}
