@@ -13,11 +13,11 @@ use Rattle.std.proofs.lemmas.List.{append-nil, drop_all, length-append, length-m
 use Rattle.std.proofs.lemmas.Bool.{cases_Bool, cases_lt, lt-ltb, le-ltb, cond-true, cond-false, and_from, and_parts, le-leb, leb-true}
 use Rattle.columns.specs.Number.{digits, text, field, worth, number, Writes}
 use Rattle.columns.specs.Reading.{unsigned_of, unsigned_reading, signed_of, signed_reading}
-use Rattle.columns.specs.declared.refusal.ReadRefusal.{ReadRefusal}
-use Rattle.columns.specs.declared.refusal.ReadRefusal.TheVariants.{Range}
+use Rattle.columns.specs.declared.read_refusal.ReadRefusal.{ReadRefusal}
+use Rattle.columns.specs.declared.read_refusal.ReadRefusal.TheVariants.{Range}
 use Rattle.columns.specs.Writing.{put, written}
-use Rattle.columns.specs.declared.refusal.WriteRefusal.{WriteRefusal}
-use Rattle.columns.specs.declared.refusal.WriteRefusal.TheVariants as refusing
+use Rattle.columns.specs.declared.write_refusal.WriteRefusal.{WriteRefusal}
+use Rattle.columns.specs.declared.write_refusal.WriteRefusal.TheVariants as refusing
 use Rattle.columns.proofs.Scan.{blanks, scan, scan_field}
 use Rattle.columns.proofs.Texts.{high, digits_high}
 
@@ -124,9 +124,6 @@ picked w (negsuc n) =
 pub number_of_field : (w : ℕ) (z : ℤ) → number (field w z) ≡ Some z
 number_of_field w z =
     number_picks (field w z) ∙ ap (λ n. pick (field w z) (pos n) (pick (field w z) (neg_ℤ (pos n)) None)) (worth_field w z) ∙ picked w z
-
-pub number_field : (w : ℕ) (z : ℤ) → length (text z) ≤ w → number (field w z) ≡ Some z
-number_field w z h = number_of_field w z
 
 pub writes_from_number : (cs : List ℕ) (z : ℤ) → number cs ≡ Some z → Writes cs z
 unfolding Writes

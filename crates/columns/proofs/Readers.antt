@@ -7,8 +7,8 @@ use Rattle.std.proofs.lemmas.Bool.Decides.{nat_tests}
 use Rattle.std.specs.Option.{ok_or, option_map}
 use Rattle.columns.specs.Number.{number, Writes}
 use Rattle.columns.specs.Reading.{ReadsSigned, signed_of, signed_reading}
-use Rattle.columns.specs.declared.refusal.ReadRefusal.{ReadRefusal}
-use Rattle.columns.specs.declared.refusal.ReadRefusal.TheVariants.{Form, Range}
+use Rattle.columns.specs.declared.read_refusal.ReadRefusal.{ReadRefusal}
+use Rattle.columns.specs.declared.read_refusal.ReadRefusal.TheVariants.{Form, Range}
 use Rattle.columns.specs.NumberTypes.{answer_of, NumberLaws}
 use Rattle.columns.specs.Scanning.{long, held_size, held, more, digit_from, seen_after, seen_number, signed_within, with_digit}
 use Rattle.columns.specs.declared.scanning.Seen.{Seen}

@@ -10,7 +10,7 @@ use Rattle.std.specs.Option.{option_map_or}
 use Rattle.columns.specs.Number.{digits, text, field}
 use Rattle.columns.specs.Signs.{front, sign_width, signed}
 use Rattle.columns.specs.Writing.{put, written}
-use Rattle.columns.specs.declared.refusal.WriteRefusal.TheVariants.{Narrow, Range}
+use Rattle.columns.specs.declared.write_refusal.WriteRefusal.TheVariants.{Narrow, Range}
 use Rattle.columns.proofs.Laws.{digits_below, length_digits, written_fits, written_past}
 use Rattle.columns.proofs.Texts.{digits_high, digits_last, digits_one}
 

@@ -1,6 +1,6 @@
 -- What the number types that stand in columns have in common: as integers, all are ordered, read and tied to their columns alike.
 use Rattle.std.specs.Prelude.{◌≡◌, ℕ, ◌^◌, ◌<◌, List, ℤ, ◌≤ℤ◌, Ok, Err, Result, unsigned_abs}
-use Rattle.columns.specs.declared.refusal.ReadRefusal.{ReadRefusal}
+use Rattle.columns.specs.declared.read_refusal.ReadRefusal.{ReadRefusal}
 use Rattle.columns.specs.Reading.{signed_reading, ReadsSigned}
 
 -- an answer with its number as an integer

@@ -1,7 +1,7 @@
 -- What a field is read as: the number that its columns write, if that is in range.
 use Rattle.std.specs.Prelude.{ℕ, ◌<◌, ◌≤◌, cond, ◌&&◌, ◌⊎◌, List, ℤ, pos, negsuc, ◌≤ℤ◌, ◌<ℤ◌, Some, None, Ok, Err, Option, Result, int_le, nat_le}
-use Rattle.columns.specs.declared.refusal.ReadRefusal.{ReadRefusal}
-use Rattle.columns.specs.declared.refusal.ReadRefusal.TheVariants.{Form, Range}
+use Rattle.columns.specs.declared.read_refusal.ReadRefusal.{ReadRefusal}
+use Rattle.columns.specs.declared.read_refusal.ReadRefusal.TheVariants.{Form, Range}
 use Rattle.columns.specs.Number.{number, Writes}
 
 -- by the number that the columns write: no number is a fault of form, a negative one or one out of range a fault of range

@@ -1,9 +1,9 @@
 -- The numbers that refusals go by.
 use Rattle.std.specs.Prelude.{ℕ}
-use Rattle.columns.specs.declared.refusal.ReadRefusal.{ReadRefusal}
-use Rattle.columns.specs.declared.refusal.ReadRefusal.TheVariants as reading
-use Rattle.columns.specs.declared.refusal.WriteRefusal.{WriteRefusal}
-use Rattle.columns.specs.declared.refusal.WriteRefusal.TheVariants as writing
+use Rattle.columns.specs.declared.read_refusal.ReadRefusal.{ReadRefusal}
+use Rattle.columns.specs.declared.read_refusal.ReadRefusal.TheVariants as reading
+use Rattle.columns.specs.declared.write_refusal.WriteRefusal.{WriteRefusal}
+use Rattle.columns.specs.declared.write_refusal.WriteRefusal.TheVariants as writing
 
 -- a reader's refusals: form is 23, range is 24
 abbrev pub read_refusal_number : ReadRefusal → ℕ

@@ -1,8 +1,8 @@
 -- Several numbers in columns, one behind the other.
 use Rattle.std.specs.Prelude.{◌≡◌, ℕ, ◌+◌, ◌<◌, ◌≤◌, Bool, cond, List, [], ◌∷◌, ◌++◌, length, pos, Some, None, Ok, Err, Option, Result, nat_le, nat_lt}
 use Rattle.std.specs.List.{list_all}
-use Rattle.columns.specs.declared.refusal.WriteRefusal.{WriteRefusal}
-use Rattle.columns.specs.declared.refusal.WriteRefusal.TheVariants.{Narrow, Range}
+use Rattle.columns.specs.declared.write_refusal.WriteRefusal.{WriteRefusal}
+use Rattle.columns.specs.declared.write_refusal.WriteRefusal.TheVariants.{Narrow, Range}
 use Rattle.columns.specs.declared.row.Field.{Field}
 use Rattle.columns.specs.Number.{text, field}
 use Rattle.columns.specs.Writing.{put}

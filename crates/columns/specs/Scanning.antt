@@ -1,7 +1,7 @@
 -- What the reader's pass has seen of the columns so far, and what one more column makes of it.
 use Rattle.std.specs.Prelude.{ℕ, ◌+◌, ◌-◌, ◌*◌, ◌/◌, ◌%◌, ◌^◌, min, Bool, cond, ◌&&◌, ℤ, pos, negsuc, neg_ℤ, Some, None, Ok, Err, Option, Result, ◌==◌, int_le, nat_le}
-use Rattle.columns.specs.declared.refusal.ReadRefusal.{ReadRefusal}
-use Rattle.columns.specs.declared.refusal.ReadRefusal.TheVariants.{Range}
+use Rattle.columns.specs.declared.read_refusal.ReadRefusal.{ReadRefusal}
+use Rattle.columns.specs.declared.read_refusal.ReadRefusal.TheVariants.{Range}
 use Rattle.columns.specs.declared.scanning.Seen.{Seen}
 use Rattle.columns.specs.declared.scanning.Seen.TheVariants.{Blanks, Minus, Number, Nothing}
 

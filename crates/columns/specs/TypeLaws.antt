@@ -6,8 +6,8 @@ use mir.Val.{bits, hbits}
 use Rattle.std.proofs.lemmas.Int.{ints}
 use native.Mathlib.Nat.{pow-le-pow_right}
 use Rattle.std.proofs.lemmas.Bool.{cases_Bool, cond-true, cond-false}
-use Rattle.columns.specs.declared.refusal.ReadRefusal.{ReadRefusal}
-use Rattle.columns.specs.declared.refusal.ReadRefusal.TheVariants.{Form, Range}
+use Rattle.columns.specs.declared.read_refusal.ReadRefusal.{ReadRefusal}
+use Rattle.columns.specs.declared.read_refusal.ReadRefusal.TheVariants.{Form, Range}
 use Rattle.columns.specs.Number.{number}
 use Rattle.columns.specs.Reading.{unsigned_of, unsigned_reading, signed_of, signed_reading, ReadsUnsigned, ReadsSigned}
 use Rattle.columns.specs.NumberTypes.{answer_of, NumberLaws}

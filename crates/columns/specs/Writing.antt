@@ -1,7 +1,7 @@
 -- What a writer answers and leaves in the buffer.
 use Rattle.std.specs.Prelude.{ℕ, cond, List, ◌++◌, length, drop, ℤ, Ok, Err, Result, nat_lt}
-use Rattle.columns.specs.declared.refusal.WriteRefusal.{WriteRefusal}
-use Rattle.columns.specs.declared.refusal.WriteRefusal.TheVariants.{Narrow, Range}
+use Rattle.columns.specs.declared.write_refusal.WriteRefusal.{WriteRefusal}
+use Rattle.columns.specs.declared.write_refusal.WriteRefusal.TheVariants.{Narrow, Range}
 use Rattle.columns.specs.Number.{text, field}
 
 -- a text over the front of a buffer; the bytes past it stay

@@ -2,7 +2,7 @@
 ghost use Rattle.std.specs.Prelude.{◌≡◌, ℕ, ℤ, pos, ◌≤◌, ◌≤ℤ◌, List, Result, MatchOption, FitsSigned};
 ghost use Rattle.std.proofs.Common.{lit≤};
 ghost use Rattle.std.specs.Int.{w16, w32, w64, FitsUnsigned};
-ghost use Rattle.columns.specs.declared.refusal.ReadRefusal.{ReadRefusal};
+ghost use Rattle.columns.specs.declared.read_refusal.ReadRefusal.{ReadRefusal};
 ghost use Rattle.columns.specs.Reading.{ReadsSigned, ReadsUnsigned, signed_reading, unsigned_reading};
 ghost use Rattle.columns.specs.NumberTypes.{NumberLaws};
 ghost use Rattle.columns.specs.TypeLaws.{signed_laws, unsigned_laws};

@@ -2,7 +2,7 @@
 ghost use Rattle.std.specs.Prelude.{◌≡◌};
 ghost use Rattle.columns.specs.Faults.{at_column};
 
-use crate::refusal::ReadRefusal;
+use crate::read_refusal::ReadRefusal;
 
 // The field's first column, counted from 1, and why it is refused.
 #[derive(Clone, Copy, PartialEq, Eq, Debug)]

@@ -7,17 +7,19 @@
 
 mod column_number;
 mod fault;
+mod read_refusal;
 mod reading;
-mod refusal;
 mod row;
 mod scanning;
+mod write_refusal;
 mod writing;
 
 pub use column_number::ColumnNumber;
 pub use fault::{ColumnFault, at_column};
+pub use read_refusal::ReadRefusal;
 pub use reading::read_number;
-pub use refusal::{ReadRefusal, WriteRefusal};
 pub use row::{Field, write_line, write_row};
+pub use write_refusal::WriteRefusal;
 pub use writing::write_number;
 
 #[cfg(test)]

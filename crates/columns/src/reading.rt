@@ -2,10 +2,10 @@
 ghost use Rattle.std.specs.Prelude.{◌≡◌, IfOk, Result, Some};
 ghost use Rattle.columns.specs.NumberTypes.{answer_of};
 ghost use Rattle.columns.specs.Scanning.{signed_within};
-ghost use Rattle.columns.specs.declared.refusal.ReadRefusal.{ReadRefusal};
+ghost use Rattle.columns.specs.declared.read_refusal.ReadRefusal.{ReadRefusal};
 
 use crate::column_number::ColumnNumber;
-use crate::refusal::ReadRefusal;
+use crate::read_refusal::ReadRefusal;
 use crate::scanning::scanned;
 
 // The number from `least` to `most` that the columns write.

@@ -3,7 +3,7 @@ ghost use Rattle.std.specs.Prelude.{◌≡◌, true, length, nat_le, pos};
 ghost use Rattle.columns.specs.Number.{text};
 ghost use Rattle.columns.specs.Row.{RowEnd, line_written, row_fits, row_text, row_width, row_written};
 
-use crate::refusal::WriteRefusal;
+use crate::write_refusal::WriteRefusal;
 use crate::writing::{digit_count, write_number};
 
 // A number, and how many columns it is written into.

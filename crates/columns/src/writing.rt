@@ -5,7 +5,7 @@ ghost use Rattle.columns.specs.Signs.{front};
 ghost use Rattle.columns.specs.Writing.{written};
 
 use crate::column_number::ColumnNumber;
-use crate::refusal::WriteRefusal;
+use crate::write_refusal::WriteRefusal;
 
 // Writes `n` right-justified into the first `width` bytes.
 pub fn write_number<N: ColumnNumber>(

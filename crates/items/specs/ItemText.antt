@@ -2,8 +2,8 @@
 use Rattle.std.specs.Prelude.{ℕ, ◌≤◌, cond, List, length, Some, None, Ok, Err, Option, Result, nat_lt}
 use Rattle.std.specs.List.{AllByRecursion}
 use Rattle.columns.specs.Writing.{put}
-use Rattle.columns.specs.declared.refusal.WriteRefusal.{WriteRefusal}
-use Rattle.columns.specs.declared.refusal.WriteRefusal.TheVariants.{Narrow, Range}
+use Rattle.columns.specs.declared.write_refusal.WriteRefusal.{WriteRefusal}
+use Rattle.columns.specs.declared.write_refusal.WriteRefusal.TheVariants.{Narrow, Range}
 
 -- an item has fifteen columns
 abbrev pub item_width : ℕ

@@ -5,7 +5,7 @@ use Rattle.columns.specs.Faults.{at_column}
 use Rattle.columns.specs.Number.{field}
 use Rattle.columns.specs.Reading.{unsigned_reading}
 use Rattle.columns.specs.declared.fault.ColumnFault.{ColumnFault}
-use Rattle.columns.specs.declared.refusal.ReadRefusal.TheVariants.{Form}
+use Rattle.columns.specs.declared.read_refusal.ReadRefusal.TheVariants.{Form}
 use Rattle.items.specs.declared.job.Job.{Job}
 use Rattle.items.specs.declared.job.Job.TheVariants.{Block, Sweep, Flush, Stop}
 

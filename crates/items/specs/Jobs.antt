@@ -11,7 +11,7 @@ use Rattle.std.specs.Str.{bytes_eq}
 use Rattle.columns.specs.Faults.{at_column}
 use Rattle.columns.specs.Number.{text, field}
 use Rattle.columns.specs.declared.fault.ColumnFault.{ColumnFault}
-use Rattle.columns.specs.declared.refusal.WriteRefusal.TheVariants.{Range}
+use Rattle.columns.specs.declared.write_refusal.WriteRefusal.TheVariants.{Range}
 use Rattle.columns.proofs.Laws.{text_below, length_text, length_field, printed_field, printed_blanks, unsigned_back, unsigned_only}
 use Rattle.items.specs.ItemText.{Printed}
 use Rattle.items.specs.Job.{number_most, block_word, sweep_word, flush_word, stop_word, no_number, numbered_text, job_text, numbered, number_reading, bare, job_of, job_reading}

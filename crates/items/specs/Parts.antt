@@ -4,7 +4,7 @@ use Rattle.std.proofs.Common.{sym, ap, ◌∙◌, append_assoc, append-nil, arit
 use borrow.Rule.Slice.PartMut.{put_mid}
 use Rattle.std.proofs.lemmas.List.{take_at, drop_all, length-append, take_all, drop_at, drop-drop, take-append-drop, length-drop}
 use Rattle.columns.specs.Faults.{at_column}
-use Rattle.columns.specs.declared.refusal.ReadRefusal.{ReadRefusal}
+use Rattle.columns.specs.declared.read_refusal.ReadRefusal.{ReadRefusal}
 
 pub at_ok : {T : Type 0} (k : ℕ) (r : Result T ReadRefusal) (x : T) → at_column k r ≡ Ok x → r ≡ Ok x
 at_ok k (Ok y) x e = let f : y ≡ x = cc in ap (λ z. Ok z) f

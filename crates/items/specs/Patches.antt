@@ -11,7 +11,7 @@ use Rattle.columns.specs.Faults.{at_column}
 use Rattle.columns.specs.Number.{text, field}
 use Rattle.columns.specs.Reading.{unsigned_reading, signed_reading}
 use Rattle.columns.specs.declared.fault.ColumnFault.{ColumnFault}
-use Rattle.columns.specs.declared.refusal.WriteRefusal.TheVariants.{Range}
+use Rattle.columns.specs.declared.write_refusal.WriteRefusal.TheVariants.{Range}
 use Rattle.columns.proofs.Laws.{length_text, length_text_below, text_below, text_above, length_field, printed_field, unsigned_back, unsigned_only, signed_back, signed_only, true_leZ, leZ_true}
 use Rattle.items.specs.ItemText.{Printed}
 use Rattle.items.specs.Patch.{face_most, zone_most, level_least, level_most, patch_fits, patch_columns, patch_text, patch_of, patch_reading}

@@ -2,7 +2,7 @@
 ghost use Rattle.std.specs.Prelude.{◌≡◌, ℕ, List, length, Some, Ok, Option, Result};
 ghost use Rattle.std.specs.Option.{ok_or};
 ghost use Rattle.columns.specs.declared.fault.ColumnFault.{ColumnFault};
-ghost use Rattle.columns.specs.declared.refusal.WriteRefusal.TheVariants.{Range};
+ghost use Rattle.columns.specs.declared.write_refusal.WriteRefusal.TheVariants.{Range};
 ghost use Rattle.items.specs.ItemText.{Printed, item_width, item_written};
 
 use columns::{ColumnFault, WriteRefusal};

@@ -1,7 +1,7 @@
 // A job: a word, and a number behind two of the words.
 ghost use Rattle.std.specs.Prelude.{◌≡◌};
 ghost use Rattle.std.specs.Option.{ok_or};
-ghost use Rattle.columns.specs.declared.refusal.WriteRefusal.TheVariants.{Range};
+ghost use Rattle.columns.specs.declared.write_refusal.WriteRefusal.TheVariants.{Range};
 ghost use Rattle.items.specs.Job.{bare, job_of, job_reading, job_text, number_reading, numbered_text};
 ghost use Rattle.items.specs.Jobs.{job_back, job_only, job_wide, job_printed};
 

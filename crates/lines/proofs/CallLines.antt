@@ -5,7 +5,7 @@ use Rattle.std.specs.Option.{ok_or}
 use Rattle.std.proofs.lemmas.List.{length-append, take_at, drop_at, drop_all, drop-drop, drop_more, set_at}
 use Rattle.std.proofs.lemmas.Bool.{cases_Bool, cond-true, cond-false, le-ltb}
 use Rattle.tickets.specs.declared.WorkerNo.{WorkerNo}
-use Rattle.columns.specs.declared.refusal.WriteRefusal.{WriteRefusal}
+use Rattle.columns.specs.declared.write_refusal.WriteRefusal.{WriteRefusal}
 use Rattle.columns.specs.Row.{row_text, row_fits}
 use Rattle.columns.proofs.Rows.{length_row}
 use Rattle.lines.specs.CallLine.{Reply, reply_item, blanks, shown, call_fields, line_of, call_line, line_put, call_written}
@@ -47,13 +47,6 @@ line_done line buffer after u room wide said = go line refl (said ∙ cond-false
   go : (x : Option (List ℕ)) → line ≡ x → ◌≡◌ {A = Result (Unit {0}) WriteRefusal × List ℕ} (Ok u, after) (line_put x buffer) → line ≡ Some after
   go None is e = let no' = ap (λ x. x.0) e in cc
   go (Some cs) is e = is ∙ ap Some (sym (ap (λ x. x.1) e ∙ (ap (λ x. cs ++ x) (drop_all (length cs) buffer (omega (arith, wide cs is))) ∙ append-nil cs)))
-
-pub line_refused : (line : Option (List ℕ)) (buffer after : List ℕ) (f : WriteRefusal) → length buffer ≡ 45
-    → ◌≡◌ {A = Result (Unit {0}) WriteRefusal × List ℕ} (Err f, after) (call_written line buffer) → line ≡ None
-line_refused line buffer after f room said = go line refl (said ∙ cond-false (ltb (length buffer) 45) _ _ (le-ltb (length buffer) 45 (omega arith))) where
-  go : (x : Option (List ℕ)) → line ≡ x → ◌≡◌ {A = Result (Unit {0}) WriteRefusal × List ℕ} (Err f, after) (line_put x buffer) → line ≡ None
-  go None is e = is
-  go (Some cs) is e = let no' = ap (λ x. x.0) e in cc
 
 -- it has 44 columns and an LF
 pub line_wide : {I : Type 0} (text : I → Option (List ℕ)) → ((x : I) (cs : List ℕ) → text x ≡ Some cs → length cs ≡ 15) → (n : ℕ) (w : WorkerNo) (r : Reply I) (cs : List ℕ) → call_line text n w r ≡ Some cs → length cs ≡ 45

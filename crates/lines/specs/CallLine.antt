@@ -3,8 +3,8 @@ use Rattle.std.specs.Prelude.{ℕ, Bool, cond, List, [], ◌∷◌, ◌++◌, le
 use Rattle.tickets.specs.declared.Ticket.{Ticket}
 use Rattle.tickets.specs.declared.WorkerNo.{WorkerNo}
 use Rattle.columns.specs.declared.row.Field.{Field}
-use Rattle.columns.specs.declared.refusal.WriteRefusal.{WriteRefusal}
-use Rattle.columns.specs.declared.refusal.WriteRefusal.TheVariants.{Narrow, Range}
+use Rattle.columns.specs.declared.write_refusal.WriteRefusal.{WriteRefusal}
+use Rattle.columns.specs.declared.write_refusal.WriteRefusal.TheVariants.{Narrow, Range}
 use Rattle.columns.specs.Row.{row_text, row_fits}
 use Rattle.columns.specs.Writing.{put}
 use Rattle.ring.specs.declared.answers.Answer.{Answer}

@@ -1,7 +1,7 @@
 // The line that a call prints.
 ghost use Rattle.std.specs.Prelude.{◌≡◌};
 ghost use Rattle.std.specs.Option.{ok_or};
-ghost use Rattle.columns.specs.declared.refusal.WriteRefusal.TheVariants.{Range};
+ghost use Rattle.columns.specs.declared.write_refusal.WriteRefusal.TheVariants.{Range};
 ghost use Rattle.lines.specs.CallLine.{call_fields, call_line, call_written, is_printed, reply_item, reply_ticket, shown};
 
 use columns::{Field, WriteRefusal, write_row};

@@ -3,7 +3,7 @@ use Rattle.std.proofs.Common.{◌≡◌, ℕ, ◌+◌, ◌-◌, ◌^◌, ◌<◌
 use Rattle.std.proofs.lemmas.List.{length-drop, length-take-le, take_all, drop-drop, take-append-drop}
 use Rattle.std.specs.Result.{result_ok}
 use Rattle.std.proofs.lemmas.Bool.Decides.{nat_tests}
-use Rattle.columns.specs.declared.refusal.ReadRefusal.{ReadRefusal}
+use Rattle.columns.specs.declared.read_refusal.ReadRefusal.{ReadRefusal}
 use Rattle.columns.specs.Faults.{at_column}
 use Rattle.columns.specs.Number.{field}
 use Rattle.columns.specs.Reading.{unsigned_reading}

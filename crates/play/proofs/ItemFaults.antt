@@ -2,8 +2,8 @@
 use Rattle.std.proofs.Common.{◌≡◌, ℕ, ◌≤◌, Bool, true, false, cond, List, take, drop, ℤ, Some, Ok, Err, Result, MatchResult, ap, subst, arith}
 use Rattle.std.specs.Result.{result_err, IsOkAnd}
 use Rattle.std.specs.Str.{bytes_eq}
-use Rattle.columns.specs.declared.refusal.ReadRefusal.{ReadRefusal}
-use Rattle.columns.specs.declared.refusal.ReadRefusal.TheVariants.{Form}
+use Rattle.columns.specs.declared.read_refusal.ReadRefusal.{ReadRefusal}
+use Rattle.columns.specs.declared.read_refusal.ReadRefusal.TheVariants.{Form}
 use Rattle.columns.specs.declared.fault.ColumnFault.{ColumnFault}
 use Rattle.columns.specs.Faults.{at_column}
 use Rattle.columns.specs.Reading.{unsigned_reading, signed_reading}

@@ -3,8 +3,8 @@ use Rattle.std.proofs.Common.{◌≡◌, ℕ, ◌-◌, Bool, true, false, cond, 
 use Rattle.std.proofs.lemmas.Bool.{cases_lt, cond-true, cond-false, and_from, and_right, le-leb, lt-leb}
 use Rattle.std.proofs.lemmas.Bool.Decides.{nat_tests}
 use Rattle.columns.specs.declared.fault.ColumnFault.{ColumnFault}
-use Rattle.columns.specs.declared.refusal.ReadRefusal.{ReadRefusal}
-use Rattle.columns.specs.declared.refusal.ReadRefusal.TheVariants.{Range}
+use Rattle.columns.specs.declared.read_refusal.ReadRefusal.{ReadRefusal}
+use Rattle.columns.specs.declared.read_refusal.ReadRefusal.TheVariants.{Range}
 use Rattle.columns.specs.Faults.{at_column}
 use Rattle.columns.specs.Number.{number}
 use Rattle.columns.specs.Reading.{unsigned_of, unsigned_reading}

@@ -45,9 +45,6 @@ module _ (laws : ItemLaws) (items : ItemChoice) (rest : List ℕ) where
         let b = ap letter_of (front_first s) ∙ code_letter s.letter in
         cc
 
-    pub front_opens : (n : ℕ) → (k : OrderLetter) × (order_letter n (letter_of (get_or rest 0 0)) ≡ Ok k)
-    front_opens n = let s = order_shape laws items o fits in (s.letter, ap (λ c. order_letter n (letter_of c)) (front_first s) ∙ ap (order_letter n) (code_letter s.letter))
-
     module _ (n : ℕ) (k : OrderLetter) (opens : order_letter n (letter_of (get_or rest 0 0)) ≡ Ok k) where
       shape : Shape laws items o
       shape = order_shape laws items o fits

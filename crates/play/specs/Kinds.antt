@@ -1,8 +1,8 @@
 -- The numbers of ring kinds and item kinds in a header.
 use Rattle.std.specs.Prelude.{◌≡◌, ℕ, cond, Ok, Err, Result, ◌==◌}
 use Rattle.columns.specs.declared.fault.ColumnFault.{ColumnFault}
-use Rattle.columns.specs.declared.refusal.ReadRefusal.{ReadRefusal}
-use Rattle.columns.specs.declared.refusal.ReadRefusal.TheVariants.{Range}
+use Rattle.columns.specs.declared.read_refusal.ReadRefusal.{ReadRefusal}
+use Rattle.columns.specs.declared.read_refusal.ReadRefusal.TheVariants.{Range}
 use Rattle.columns.specs.Faults.{at_column}
 use Rattle.play.specs.declared.header.RingChoice.{RingChoice}
 use Rattle.play.specs.declared.header.RingChoice.TheVariants.{Crq, Prq}

@@ -2,7 +2,7 @@
 use Rattle.std.proofs.Common.{◌≡◌, ℕ, ◌+◌, true, cond, ltb, List, [], ◌∷◌, ◌++◌, length, Ok, Result, ap, ◌∙◌, inl, inr, append-nil, arith}
 use Rattle.std.proofs.lemmas.List.{length-append, drop_all}
 use Rattle.std.proofs.lemmas.Bool.{cases_Bool, cond-true, cond-false, le-ltb}
-use Rattle.columns.specs.declared.refusal.WriteRefusal.{WriteRefusal}
+use Rattle.columns.specs.declared.write_refusal.WriteRefusal.{WriteRefusal}
 use Rattle.columns.specs.declared.row.Field.{Field}
 use Rattle.columns.specs.Row.{row_width, row_text, row_fits, line_text, line_written}
 use Rattle.columns.proofs.Rows.{length_row}

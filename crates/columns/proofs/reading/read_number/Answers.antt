@@ -6,7 +6,7 @@ use Rattle.std.proofs.lemmas.Result.{err_from_is_err_and}
 use Rattle.columns.specs.Number.{number}
 use Rattle.columns.specs.Reading.{signed_of}
 use Rattle.columns.specs.Scanning.{signed_within}
-use Rattle.columns.specs.declared.refusal.ReadRefusal.TheVariants.{Form}
+use Rattle.columns.specs.declared.read_refusal.ReadRefusal.TheVariants.{Form}
 use Rattle.columns.specs.NumberTypes.{answer_of}
 use Rattle.columns.proofs.Readers.{form_told, found_told, read_value, read_relates, read_alone, read_bound}
 use Rattle.columns.proofs.reading.read_number.Goals as goal

@@ -3,7 +3,7 @@ use Rattle.std.specs.Prelude.{MatchOption}
 use Rattle.std.specs.Int.{w128}
 use Rattle.std.proofs.lemmas.Int.{ints, to_z-of_z}
 use Rattle.std.specs.Option.{ok_or}
-use Rattle.columns.specs.declared.refusal.ReadRefusal.TheVariants.{Range}
+use Rattle.columns.specs.declared.read_refusal.ReadRefusal.TheVariants.{Range}
 use Rattle.columns.specs.NumberTypes.{answer_of}
 use Rattle.columns.proofs.Readers.{within_value}
 use Rattle.columns.proofs.reading.within.Goals as goal

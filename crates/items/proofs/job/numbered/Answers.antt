@@ -1,7 +1,7 @@
 use Rattle.std.proofs.Common.{◌≡◌, ◌++◌, length, take, drop, pos, Err, sym, refl, ap, ◌∙◌, arith, length-append, rules}
 use Rattle.std.proofs.lemmas.Result.{err_from_is_err_and}
 use Rattle.std.specs.Option.{ok_or}
-use Rattle.columns.specs.declared.refusal.WriteRefusal.TheVariants.{Range}
+use Rattle.columns.specs.declared.write_refusal.WriteRefusal.TheVariants.{Range}
 use Rattle.columns.proofs.Laws.{written_ok, written_err}
 use Rattle.items.specs.Job.{numbered_text, no_number}
 use Rattle.items.specs.Jobs.{numbered_put, numbered_past}

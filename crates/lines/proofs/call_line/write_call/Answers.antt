@@ -5,7 +5,7 @@ use Rattle.std.specs.Option.{ok_or}
 use Rattle.std.proofs.lemmas.List.{length-take-le, take-append-drop}
 use Rattle.std.proofs.lemmas.Result.{err_from_is_err_and}
 use Rattle.std.proofs.lemmas.Bool.{cond-true, cond-false, le-ltb}
-use Rattle.columns.specs.declared.refusal.WriteRefusal.TheVariants.{Narrow, Range}
+use Rattle.columns.specs.declared.write_refusal.WriteRefusal.TheVariants.{Narrow, Range}
 use Rattle.columns.specs.Row.{row_fits, row_text, row_written}
 use Rattle.columns.proofs.Rows.{row_refused, row_done, length_row}
 use Rattle.lines.specs.CallLine.{reply_item, call_fields, call_line, line_of, line_put, shown}
