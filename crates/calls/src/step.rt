@@ -45,6 +45,7 @@ impl<'m, I: Copy, K: RingKind<I>> Table<'m, I, K> {
     }
 
     // The row of the worker's phase: the engine's, or the ring kind's. The books are shown from it at one place, above.
+    // A match: the machine of a worker goes by its own phase.
     #[inline(always)]
     fn perform(&mut self, number: WorkerNo) -> Result<Answer<I>, Refusal>
         ensures memory { SameMemory self.old self.new }

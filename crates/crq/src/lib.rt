@@ -66,11 +66,13 @@ impl<I: Copy> RingKind<I> for Crq {
     ) -> Result<Answer<I>, Refusal>
         ensures { Performed (crq_step ring head number worker.old cell.old) worker.old cell.old result worker.new cell.new }
     {
+        // one line in each kind: only the rows differ, and they are all that a kind is
         take_turn(Due::of(ring, head, number, worker)?, worker, cell)
     }
 }
 
-// The books of every run with CRQ close, they fill, and nothing is invented.
+// The books of every run with CRQ close, they fill, and nothing is invented. `books_close` is generic; here its clauses name
+// this kind's own rows.
 pub fn crq_books_close<I: Copy>()
     ensures close { BooksClose {I = I} crq_step }
     ensures fill { BooksFill {I = I} crq_step }

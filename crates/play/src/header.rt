@@ -26,7 +26,7 @@ impl TryFrom<u16> for RingChoice {
     }
 }
 
-// The kind of item that a play enqueues: 1 (patch) or 2 (job) in the header.
+// The kind of item that a play enqueues: 1 (patch) or 2 (job) in the header. It has cases of its own, so its conversion too.
 #[derive(Clone, Copy, PartialEq, Eq, Debug)]
 pub enum ItemChoice {
     Patch,

@@ -20,7 +20,8 @@ pub trait RingKind<I> {
     // a ticket can no longer be placed
     ghost barred: { Table I → Ticket → Type 0 };
 
-    // Performs the row of the worker's phase on its record and its ticket's cell; a refusal leaves both.
+    // Performs the row of the worker's phase on its record and its ticket's cell; a refusal leaves both. Ring, head and
+    // number stand apart, as in `step`: the laws name each.
     fn perform(
         &self,
         ring: u32,

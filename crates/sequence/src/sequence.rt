@@ -31,7 +31,7 @@ fn call_each<I: Copy, K: RingKind<I>>(
 }
 
 // Lays a table out and makes the calls one after another, each answer at its call's index.
-// Calls for whose answers there is no room are not made.
+// Calls for whose answers there is no room are not made. Both are the caller's memory, so that none is allocated.
 pub fn make_calls<I: Copy, K: RingKind<I>>(
     kind: &K,
     cells: &mut [Cell<I>],

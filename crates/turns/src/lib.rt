@@ -29,7 +29,8 @@ pub fn go_on<I: Copy>(worker: &mut Worker<I>, phase: Phase) -> Result<Answer<I>,
     Ok(Answer::Working)
 }
 
-// The worker reads the cell's pair and goes on.
+// The worker reads the cell's pair and goes on. Pair and value are two words, read and swapped by rows of their own: one
+// function for both would have to be told which.
 pub fn read_pair<I: Copy>(
     worker: &mut Worker<I>,
     cell: &Cell<I>,
