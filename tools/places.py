@@ -12,7 +12,7 @@ POINTS = {
         ('a value matched only to be passed on', r'(Ok|Some)\((\w+)\) => (Ok|Some|Err)\(\2\)'),
         ('nothing where there is nothing, by a match', r'(Err\(_\)|None) => None,'),
         ('a number tested for a kind', r'(== 1 \{|!= 1 \{|\) >= 2$)'),
-        ('a match from a case to its number', r'=> (0|11|18|23),$'),
+        ('a match from a case to its number', r'::(Assigned => 0|Ring => 11|Narrow => 18|Form => 23),$'),
         ('a number that says nothing as a result', r'fn \w+_close<.*> *\(\) -> u8'),
         ('a flag beside its value', r'^\s+(negative|safe|enqueues): bool,$|, (safe|negative): bool'),
         ('numbers for a layer and a refusal', r'pub (layer|number): u16'),
