@@ -5,7 +5,7 @@
 // Rests on: tickets, ring, engine; the step also on the ring kind that it is given.
 #![tactic(auto)]
 
-mod assign;
+pub mod assign;
 pub mod lay_out;
 pub mod occupied;
 mod step;

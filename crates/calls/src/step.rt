@@ -7,7 +7,7 @@ ghost use Rattle.ring.specs.Calls.{fitting, stepped, called};
 ghost use Rattle.calls.specs.Promise.{Continues};
 ghost use Rattle.calls.specs.Lent.{table_of, left_by, SameMemory};
 
-use crate::table::Table;
+use crate::table::{Table, record_of};
 use engine::fits::fits;
 use engine::rows::engine_turn;
 use ring::answers::*;
@@ -51,10 +51,10 @@ impl<'m, I: Copy, K: RingKind<I>> Table<'m, I, K> {
         ensures memory { SameMemory self.old self.new }
         ensures rows { left_by self.new result ≡ stepped K.RingKind.step (table_of self.old) number }
     {
-        let at = self.record_of(number)?;
         let mut control = self.control;
         let cells = &mut *self.cells;
         let workers = &mut *self.workers;
+        let at = record_of(&control, cells.len(), workers, number)?;
         match workers[at].phase {
             Phase::Idle => Err(Refusal::Idle),
             Phase::Engine(row) => {

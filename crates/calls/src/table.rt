@@ -1,6 +1,8 @@
 // A table over the caller's memory, and the tests that each call on it makes first.
-ghost use Rattle.std.specs.Prelude.{◌≡◌};
-ghost use Rattle.calls.specs.Lent.{table_of, Admits};
+ghost use Rattle.std.specs.Prelude.{◌≡◌, ℕ, ◌<◌, List, length, IfOk};
+ghost use Rattle.ring.specs.declared.table.Cell.{Cell};
+ghost use Rattle.calls.specs.Promise.{table};
+ghost use Rattle.calls.specs.Lent.{Admits};
 
 use ring::answers::Refusal;
 use ring::control::Control;
@@ -16,20 +18,22 @@ pub struct Table<'m, I, K> {
     pub workers: &'m mut [Worker<I>],
 }
 
-impl<'m, I: Copy, K> Table<'m, I, K> {
-    // The index of a worker's record: the counts have to be the control's, and the worker one of its crew.
-    pub(crate) fn record_of(&self, number: WorkerNo) -> Result<usize, Refusal>
-        ensures { Admits (table_of self.now) number result }
-    {
-        if self.cells.len() != self.control.cells as usize {
-            return Err(Refusal::Misfit);
-        }
-        if self.workers.len() != self.control.workers as usize {
-            return Err(Refusal::Misfit);
-        }
-        if number.0 == 0 || u32::from(number.0) > self.control.workers {
-            return Err(Refusal::Nobody);
-        }
-        Ok(number.0 as usize - 1)
+// The index of a worker's record, in a table with so many cells: the counts have to be the control's, and the worker one
+// of its crew.
+pub(crate) fn record_of<I: Copy>(
+    control: &Control,
+    cells: usize,
+    workers: &[Worker<I>],
+    number: WorkerNo,
+) -> Result<usize, Refusal>
+    ensures tests { (cs : List (Cell I)) → length cs ≡ cells → Admits (table control.now cs workers.now) number result }
+    ensures inside { IfOk result (λ at. at < length workers.now) }
+{
+    if cells != control.cells as usize || workers.len() != control.workers as usize {
+        return Err(Refusal::Misfit);
     }
+    if number.0 == 0 || u32::from(number.0) > control.workers {
+        return Err(Refusal::Nobody);
+    }
+    Ok(usize::from(number.0) - 1)
 }

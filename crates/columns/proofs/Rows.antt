@@ -1,7 +1,8 @@
 -- A row's columns: filled by its numbers, framed by a mark and an LF, refused or done.
-use Rattle.std.proofs.Common.{◌≡◌, ℕ, suc, ◌+◌, ◌≤◌, true, false, ltb, leb, List, [], ◌∷◌, ◌++◌, length, get_or, drop, set, pos, Ok, Err, Result, sym, refl, ap, ◌∙◌, inl, inr, append_assoc, append-nil, arith}
+use Rattle.std.proofs.Common.{◌≡◌, ℕ, suc, ◌+◌, ◌<◌, ◌≤◌, true, false, ◌&&◌, ltb, leb, List, [], ◌∷◌, ◌++◌, length, get_or, take, drop, set, pos, Ok, Err, Result, sym, refl, ap, ◌∙◌, inl, inr, append_assoc, append-nil, arith}
 use borrow.Rule.Slice.PartMut.{put_mid}
-use Rattle.std.proofs.lemmas.List.{length-append, drop_all, drop_more, set_at}
+use Rattle.std.proofs.lemmas.List.{length-append, drop_all, drop_more, set_at, at_drop_more}
+use Rattle.std.proofs.lemmas.Slice.{take-put_mid}
 use Rattle.std.proofs.lemmas.Bool.{cases_Bool, cond-true, cond-false, and_parts, le-ltb, leb-true}
 use Rattle.columns.specs.declared.write_refusal.WriteRefusal.{WriteRefusal}
 use Rattle.columns.specs.declared.write_refusal.WriteRefusal.TheVariants.{Range}
@@ -10,6 +11,19 @@ use Rattle.columns.specs.Number.{text, field}
 use Rattle.columns.specs.Row.{row_width, row_text, row_fits, row_written}
 use Rattle.columns.specs.Writing.{written}
 use Rattle.columns.proofs.Laws.{length_field}
+
+abbrev pub no_field : Field
+no_field = record { width = 0; number = 0 }
+
+module _ (fs : List Field) (i : ℕ) (h : i < length fs) where
+  pub width_more : row_width (drop i fs) ≡ (get_or fs i no_field).width + row_width (drop (i + 1) fs)
+  width_more = at_drop_more row_width fs i no_field h
+
+  pub text_more : row_text (drop i fs) ≡ field (get_or fs i no_field).width (pos (get_or fs i no_field).number) ++ row_text (drop (i + 1) fs)
+  text_more = at_drop_more row_text fs i no_field h
+
+  pub fits_more : row_fits (drop i fs) ≡ (leb (length (text (pos (get_or fs i no_field).number))) (get_or fs i no_field).width && row_fits (drop (i + 1) fs))
+  fits_more = at_drop_more row_fits fs i no_field h
 
 -- a number that fits, written into columns that it fills
 pub fills : (w n : ℕ) (columns : List ℕ) (r : Result (Unit {0}) WriteRefusal) (after : List ℕ) → length columns ≡ w → leb (length (text (pos n))) w ≡ true
@@ -65,3 +79,14 @@ row_done fs part after u room said =
       )
       | inr wide ↦ let no' = ap (λ x. x.0) (here ∙ cond-false (row_fits fs) _ _ wide) in cc
     ]
+
+-- the part before `at` and the fields to come make the whole row
+pub row_turn : (fs : List Field) (i : ℕ) (h : i < length fs) (at k : ℕ) (xs ys all : List ℕ) → at ≤ length xs → length ys ≡ (get_or fs i no_field).width
+    → ys ≡ field (get_or fs i no_field).width (pos (get_or fs i no_field).number) → take at xs ++ row_text (drop i fs) ≡ all
+    → take (at + (get_or fs i no_field).width) (put_mid at k xs ys) ++ row_text (drop (i + 1) fs) ≡ all
+row_turn fs i h at k xs ys all room len is e =
+    ap (λ x. x ++ row_text (drop (i + 1) fs)) (take-put_mid at k xs ys (at + (get_or fs i no_field).width) (omega arith) room)
+    ∙ append_assoc (take at xs) ys (row_text (drop (i + 1) fs))
+    ∙ ap (λ x. take at xs ++ (x ++ row_text (drop (i + 1) fs))) is
+    ∙ ap (λ x. take at xs ++ x) (sym (text_more fs i h))
+    ∙ e

@@ -80,9 +80,11 @@ fn fill_row(columns: &mut [u8], fields: &[Field])
     requires fits { row_fits fields.now ≡ true }
     ensures { columns.new ≡ row_text fields.now }
 {
-    if let Some((field, others)) = fields.split_first() {
-        let (front, behind) = columns.split_at_mut(field.width);
-        let _ = write_number(front, field.width, field.number);
-        fill_row(behind, others);
+    // a cursor: of a rest that is split off in a loop nothing is known once the loop is over
+    let mut at = 0;
+    for field in fields {
+        let end = at + field.width;
+        let _ = write_number(&mut columns[at..end], field.width, field.number);
+        at = end;
     }
 }
