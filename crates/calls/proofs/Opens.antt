@@ -9,7 +9,6 @@ use Rattle.ring.specs.declared.answers.Refusal.TheVariants.{Ring, Crew}
 use Rattle.ring.specs.Table.{Counters, Table, InRange, laid_out}
 use Rattle.ring.specs.Ledger.{blank}
 use Rattle.ring.specs.Books.{Sound}
-use Rattle.ring.proofs.Equals.{clash}
 use Rattle.ring.proofs.Books.{new_sound}
 use Rattle.engine.specs.Engine.{counters}
 use Rattle.calls.specs.Promise.{table}
@@ -19,7 +18,7 @@ range_from : (a b : ℕ) → (leb 1 a && leb a b) ≡ true → (1 ≤ a) × (a �
 range_from a b e = let p = and_parts (leb 1 a) (leb a b) e in (leb-true 1 a p.0, leb-true a b p.1)
 
 never : {A : Type 0} {k : Counters} (x : Refusal) → ◌≡◌ {A = Result Counters Refusal} (Ok k) (Err x) → A
-never x e = clash (cc)
+never x e = cc
 
 module _ {I : Type 0} where
   abbrev pub at_exit : Result Control Refusal → List (Cell I) → List (Worker I) → Laying I

@@ -12,7 +12,8 @@ pub const MOST_CELLS: usize = 1024;
 // A crew has 1 to this many workers.
 pub const MOST_WORKERS: usize = 64;
 
-// The tests, and then the memory and the control anew: the rows alone. The books are shown from them at one place, below.
+// The tests, and then the memory and the control anew: the rows alone. The books are shown from them at one place, below; in
+// one function their proof did not close at the return.
 fn laid<I: Copy>(cells: &mut [Cell<I>], workers: &mut [Worker<I>]) -> Result<Control, Refusal>
     ensures { record { control = counters_of result; cells = cells.new; workers = workers.new } ≡ laying cells.old workers.old }
 {
@@ -33,7 +34,8 @@ fn laid<I: Copy>(cells: &mut [Cell<I>], workers: &mut [Worker<I>]) -> Result<Con
     })
 }
 
-// Lays a table out over the whole of the caller's memory.
+// Lays a table out over the whole of the caller's memory. It gives the control and no `Table`: a function can say of one
+// lender what becomes of it, and not of two.
 pub fn lay_out<I: Copy>(
     cells: &mut [Cell<I>],
     workers: &mut [Worker<I>],

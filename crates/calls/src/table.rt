@@ -9,7 +9,8 @@ use ring::control::Control;
 use ring::table::*;
 use tickets::WorkerNo;
 
-// The ring kind, what the table counts, and the caller's cells and worker records, which are lent to it.
+// The ring kind, what the table counts, and the caller's cells and worker records, which are lent to it. The control counts
+// both, beside their slices: whether they agree is a test of each call (13), and no invariant.
 #[derive(Drop)]
 pub struct Table<'m, I, K> {
     pub kind: &'m K,

@@ -66,7 +66,7 @@ fn all_fit(fields: &[Field]) -> bool
 fn row_end(fields: &[Field], room: usize) -> Option<usize>
     ensures { RowEnd (row_width fields.now) room result }
 {
-    // a loop with `?`: `try_fold` takes the same step and has to name it as a closure
+    // a loop with `?`: of `try_fold` the proof closes only by an induction of its own over the fields
     let mut left = room;
     for field in fields {
         left = left.checked_sub(field.width)?;

@@ -7,6 +7,7 @@ ghost use Rattle.columns.specs.Scanning.{held, seen_after, seen_number, with_dig
 // The first number that 64 bits don't hold.
 const LONG: i128 = 1 << 64;
 
+// Nothing stays nothing: the fold goes over all columns, with one way through.
 // What the columns so far are: blanks, blanks and a minus, a number, or nothing that can become one.
 #[derive(Clone, Copy)]
 enum Seen {

@@ -1,5 +1,5 @@
 // Writes a number into the columns of a field, from the right.
-ghost use Rattle.std.specs.Prelude.{◌≡◌, ◌<◌, ◌≤◌, ◌^◌, true, length};
+ghost use Rattle.std.specs.Prelude.{◌≡◌, ◌<◌, ◌≤◌, true, length};
 ghost use Rattle.columns.specs.Number.{digits};
 ghost use Rattle.columns.specs.Signs.{front};
 ghost use Rattle.columns.specs.Writing.{written};
@@ -40,7 +40,7 @@ pub(crate) fn digit_count(n: u64) -> usize
     n.checked_ilog10().map_or(1, |power| power as usize + 1)
 }
 
-// Blanks, and the minus of a negative number at their end.
+// Blanks, and the minus of a negative number at their end; a flag, with no value beside it.
 fn write_front(columns: &mut [u8], negative: bool)
     requires { negative ≡ true → 0 < length columns.old }
     ensures { columns.new ≡ front (length columns.old) negative }

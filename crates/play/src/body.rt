@@ -1,5 +1,5 @@
 // The lines behind the header, read up to the first fault.
-ghost use Rattle.std.specs.Prelude.{◌≡◌, ℕ, ◌≤◌, length};
+ghost use Rattle.std.specs.Prelude.{◌≡◌, ℕ};
 ghost use Rattle.play.specs.Letters.{letter_of};
 ghost use Rattle.play.specs.Lines.{lines_of};
 ghost use Rattle.play.specs.Play.{order_letter, order_lines, fault_part};

@@ -18,7 +18,7 @@ pub enum Letter {
 }
 
 impl Letter {
-    // What the letter stands for, if it is one of a play's.
+    // What the letter stands for, if it is one of a play's. A match on a `char`, the form that the project fixed.
     pub fn of(letter: char) -> Option<Letter>
         ensures { result ≡ letter_of letter }
     {

@@ -71,7 +71,8 @@ fn item_columns(line: &[u8]) -> &[u8; ITEM_WIDTH]
     line[ITEM_START..].first_chunk().unwrap()
 }
 
-// Whether the columns hold an item of the play's kind; a fault's column is the line's.
+// Whether the columns hold an item of the play's kind; a fault's column is the line's. A match: the kind is the header's, and
+// known only as the play is read.
 fn check_item(items: ItemChoice, columns: &[u8; ITEM_WIDTH]) -> Result<(), ColumnFault>
     ensures { result ≡ item_check items columns.now }
 {
@@ -85,7 +86,7 @@ fn check_item(items: ItemChoice, columns: &[u8; ITEM_WIDTH]) -> Result<(), Colum
     })
 }
 
-// The order that the columns of an E, D or S line say.
+// The order that the columns of an E, D or S line say. A match: the letter decides the line.
 pub(crate) fn read_order<'a>(
     items: ItemChoice,
     letter: OrderLetter,

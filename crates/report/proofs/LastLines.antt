@@ -6,7 +6,6 @@ use Rattle.columns.specs.declared.write_refusal.WriteRefusal.{WriteRefusal}
 use Rattle.columns.specs.declared.row.Field.{Field}
 use Rattle.columns.specs.Row.{row_width, row_text, row_fits, line_text, line_written}
 use Rattle.columns.proofs.Rows.{length_row}
-use Rattle.ring.proofs.Equals.{clash}
 
 module _ (mark : ℕ) (fs : List Field) (buffer after : List ℕ) (room : length buffer ≡ row_width fs + 2) where
   wide : {X : Type 0} (x y : X) → cond (ltb (length buffer) (row_width fs + 2)) x y ≡ y
@@ -20,5 +19,5 @@ module _ (mark : ℕ) (fs : List Field) (buffer after : List ℕ) (room : length
               ∙ (ap (λ x. line_text mark fs ++ x) (drop_all (length (line_text mark fs)) buffer (omega (arith, length_row fs fits, length-append (row_text fs) (10 ∷ [])))) ∙ append-nil (line_text mark fs)),
           fits,
         )
-        | inr no_fit ↦ let no' = ap (λ x. x.0) (said ∙ wide _ _ ∙ cond-false (row_fits fs) _ _ no_fit) in clash (cc)
+        | inr no_fit ↦ let no' = ap (λ x. x.0) (said ∙ wide _ _ ∙ cond-false (row_fits fs) _ _ no_fit) in cc
       ]

@@ -20,7 +20,6 @@ use Rattle.ring.specs.Ledger.{run}
 use Rattle.ring.specs.Origin.{Assigns, ItemsAssigned}
 use Rattle.ring.specs.Table.{Table, InRange, counter_limit, one_if, occupied, occupied_cells}
 use Rattle.ring.specs.Turns.{KindStep}
-use Rattle.ring.proofs.Equals.{clash}
 use Rattle.ring.proofs.Orderly.{Orderly}
 use Rattle.lines.specs.CallLine.{Reply, number_or_0, reply_ticket, reply_item, is_printed, call_fields, shown, line_of, call_line}
 use Rattle.lines.specs.LastLine.{bit}
@@ -34,7 +33,7 @@ use Rattle.report.proofs.Orders.{order_shorter}
 use Rattle.report.proofs.SmallRows.{small_fits}
 
 line_has : (fs : List Field) (o : Option (List ℕ)) → row_fits fs ≡ true → has_line o ≡ true → has_line (line_of fs o) ≡ true
-line_has fs None f h = clash (cc)
+line_has fs None f h = cc
 line_has fs (Some cs) f h = ap has_line (cond-true (row_fits fs) _ _ f)
 
 number_low : (o : Option Ticket) → ((k : Ticket) → o ≡ Some k → k.0 < counter_limit) → number_or_0 o < counter_limit
@@ -133,7 +132,7 @@ module _ {I : Type 0} where
     steps_fine : (m : ℕ) (n : WorkerNo) (k : ℕ) (s : Running I) → n.0 ≤ 64 → m + k < 1000000000 → Fine m s → Fine (m + k) (stepping text step n k s)
     steps_fine m n zero s low h f = later m (m + 0) s (omega arith) f
     steps_fine m n (suc k) s low h f =
-        let next = call_fine m s (Step n) low (omega arith) (λ _ _ e. clash (cc)) f in
+        let next = call_fine m s (Step n) low (omega arith) (λ _ _ e. cc) f in
         let same : m + 1 + k ≡ m + suc k = omega arith in
         cond_both (stops (called step s.table (Step n)).answer) (performed text step s (Step n)) (stepping text step n k (performed text step s (Step n))) (Fine (m + suc k))
         (λ _. later (m + 1) (m + suc k) (performed text step s (Step n)) (omega arith) next)
@@ -147,7 +146,7 @@ module _ {I : Type 0} where
     order_fine : (items : ItemChoice) (o : PlainOrder) (m : ℕ) (s : Running I) → OrderFits items o → m + 9999 < 1000000000 → Fine m s → Fine (m + 9999) (ordered text reading step o s)
     order_fine items (enqueue n cs) m s g h f =
         later (m + 1) (m + 9999) (enqueuing text reading step n (reading cs) s) (omega arith) (enqueue_fine m n cs s g.0.1 (item_laws.wide items cs g.1) (omega arith) f (reading cs) refl)
-    order_fine items (dequeue n) m s g h f = later (m + 1) (m + 9999) (performed text step s (AssignDequeue n)) (omega arith) (call_fine m s (AssignDequeue n) g.1 (omega arith) (λ _ _ e. clash (cc)) f)
+    order_fine items (dequeue n) m s g h f = later (m + 1) (m + 9999) (performed text step s (AssignDequeue n)) (omega arith) (call_fine m s (AssignDequeue n) g.1 (omega arith) (λ _ _ e. cc) f)
     order_fine items (steps n k) m s g h f = later (m + k) (m + 9999) (stepping text step n k s) (omega (arith, g.1.1)) (steps_fine m n k s g.0.1 (omega (arith, g.1.1)) f)
 
     orders_fine : (items : ItemChoice) (os : List PlainOrder) (m : ℕ) (s : Running I) → OrdersFit items os → m + 9999 * length (orders_text os) < 1000000000 → Fine m s

@@ -4,12 +4,11 @@ use Rattle.std.proofs.lemmas.List.{length-append}
 use Rattle.std.proofs.lemmas.Bool.{cases_Bool, cond-true, ltb-false}
 use Rattle.play.specs.Play.{PlainPlay, longest, play_reading}
 use Rattle.play.specs.Text.{header_text, orders_text, play_text}
-use Rattle.ring.proofs.Equals.{clash}
 
 short_play : (bytes : List ℕ) (p : PlainPlay) → play_reading bytes ≡ Ok p → length bytes ≤ 60000
 short_play bytes p e =
     elim (cases_Bool (ltb longest (length bytes))) [
-      | inl long ↦ let no' = sym (cond-true (ltb longest (length bytes)) _ _ long) ∙ e in clash (cc)
+      | inl long ↦ let no' = sym (cond-true (ltb longest (length bytes)) _ _ long) ∙ e in cc
       | inr short ↦ ltb-false longest (length bytes) short
     ]
 

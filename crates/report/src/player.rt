@@ -2,7 +2,6 @@
 ghost use Rattle.std.specs.Prelude.{◌≡◌, ℕ, ◌+◌, ◌<◌, ◌≤◌, List, length, OnOk};
 ghost use Rattle.ring.specs.Calls.{called};
 ghost use Rattle.calls.specs.Lent.{table_of};
-ghost use Rattle.lines.specs.CallLine.{Reply};
 ghost use Rattle.report.specs.Player.{Body, Printed, Ran};
 ghost use Rattle.report.specs.Playing.{playing};
 ghost use Rattle.report.specs.Running.{all_ordered, caller, most_calls, ordered, performed, printed, stepping, stops};
@@ -30,7 +29,7 @@ pub(crate) struct Player<'m, I, K> {
     pub(crate) out: Vec<u8>,
 }
 
-// Prints the line of a call, if it has one.
+// Prints the line of a call, if it has one. An array of its width, and a function of its own: see `report_fault`.
 fn print_call<I: ItemKind>(
     out: &mut Vec<u8>,
     call: u64,
@@ -48,6 +47,7 @@ fn print_call<I: ItemKind>(
     Ok(())
 }
 
+// A match: a call is data.
 fn caller_of<I: Copy>(call: Call<I>) -> WorkerNo
     ensures { result ≡ caller call }
 {
@@ -75,7 +75,7 @@ impl<'m, I: ItemKind, K: RingKind<I>> Player<'m, I, K> {
         Ok(stops_at(reply))
     }
 
-    // Makes at most `count` steps of a worker.
+    // Makes at most `count` steps of a worker. (Room for calls: as in `perform`.)
     fn step_on(&mut self, worker: WorkerNo, count: u16) -> Result<(), ReportError>
         requires { self.old.calls + count < 1000000000 }
         ensures ran { Ran result (λ _. playing self.new ≡ stepping I.ItemKind.text K.RingKind.step worker count (playing self.old)) (stepping I.ItemKind.text K.RingKind.step worker count (playing self.old)) }
@@ -89,7 +89,7 @@ impl<'m, I: ItemKind, K: RingKind<I>> Player<'m, I, K> {
         Ok(())
     }
 
-    // Plays one order.
+    // Plays one order. A match: an order is data, read from a line. (Room for calls: as in `perform`.)
     fn play_order(&mut self, order: Order) -> Result<(), ReportError>
         requires { self.old.calls + most_calls (plain order) < 1000000000 }
         ensures ran { Ran result (λ _. playing self.new ≡ ordered I.ItemKind.text I.ItemKind.reading K.RingKind.step (plain order.entry) (playing self.old)) (ordered I.ItemKind.text I.ItemKind.reading K.RingKind.step (plain order.entry) (playing self.old)) }
@@ -111,7 +111,7 @@ impl<'m, I: ItemKind, K: RingKind<I>> Player<'m, I, K> {
     }
 
     // Plays the orders of a body, one after the other, as the player's first calls. `Play` has open fields, which a caller may
-    // fill, so that it cannot promise how long its body is.
+    // fill, so that it cannot promise how long its body is; a struct of report's own would be read by its entry in each clause.
     pub(crate) fn play_body(&mut self, items: ItemChoice, body: &[u8]) -> Result<(), ReportError>
         requires new { self.old.calls ≡ 0 }
         requires short { length body.now ≤ 60000 }

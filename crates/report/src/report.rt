@@ -1,5 +1,5 @@
 // The report of a play, from its bytes.
-ghost use Rattle.std.specs.Prelude.{◌≡◌, ℕ, ◌≤◌, List, length, IfOk, vec_len};
+ghost use Rattle.std.specs.Prelude.{◌≡◌, ℕ, ◌≤◌, List, length};
 ghost use Rattle.play.specs.Orders.{PlainOrder};
 ghost use Rattle.play.specs.Text.{HeaderFits, OrdersFit, orders_text};
 ghost use Rattle.report.specs.Fits.{ReportFits, RunFits};
@@ -19,7 +19,7 @@ use play::play::read_play;
 use prq::Prq;
 use ring::kind::RingKind;
 use ring::table::*;
-use std::alloc::{AllocError, Global};
+use std::alloc::Global;
 
 // The fault line of a play that has one. Three functions print a line of their own width and writer: one over a closure
 // would have a contract longer than they are.
@@ -34,6 +34,7 @@ fn report_fault(heap: Global, fault: PlayFault) -> Result<Vec<u8>, ReportError>
 }
 
 // A play on a ring of one kind, with items of one kind. Header and body, and no `Play`: clauses would read it by its entry.
+// (How long the body is: as in `play_body`.)
 fn play_on<I: ItemKind, K: RingKind<I>>(
     heap: Global,
     kind: &K,

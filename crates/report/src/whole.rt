@@ -19,7 +19,7 @@ use ring::kind::RingKind;
 use ring::table::*;
 use std::alloc::Global;
 
-// Prints the last line: what the table has come to.
+// Prints the last line: what the table has come to. A function of its own: see `report_fault`.
 fn print_last<I: ItemKind, K>(out: &mut Vec<u8>, table: &Table<'_, I, K>) -> Result<(), ReportError>
     ensures { LastPrinted (table_fields (table_of table.now)) out.old.items out.new.items result }
 {
@@ -29,7 +29,7 @@ fn print_last<I: ItemKind, K>(out: &mut Vec<u8>, table: &Table<'_, I, K>) -> Res
     Ok(())
 }
 
-// Lays the table out, plays the orders, and prints the last line.
+// Lays the table out, plays the orders, and prints the last line. (How long the body is: as in `play_body`.)
 pub(crate) fn play_table<I: ItemKind, K: RingKind<I>>(
     heap: Global,
     kind: &K,

@@ -1,5 +1,4 @@
 // A ring kind: its meaning, its seven laws, and its step.
-ghost use Rattle.std.specs.Prelude.{◌≡◌};
 ghost use Rattle.tickets.specs.declared.Ticket.{Ticket};
 ghost use Rattle.ring.specs.Table.{Table, Held};
 ghost use Rattle.ring.specs.Turns.{KindStep, Performed};

@@ -9,7 +9,7 @@ use ring::answers::*;
 use ring::call::Call;
 use ring::kind::RingKind;
 
-// Makes the call: an assignment or a step.
+// Makes the call: an assignment or a step. A match: a call is data, which lists hold.
 pub fn make_call<I: Copy, K: RingKind<I>>(
     table: &mut Table<'_, I, K>,
     call: Call<I>,

@@ -18,7 +18,8 @@ pub struct Due {
 }
 
 impl Due {
-    // What is due from the worker with this record, on a ring of `ring` cells: 13 where no row of a kind is.
+    // What is due from the worker with this record, on a ring of `ring` cells: 13 where no row of a kind is. Ring, head and
+    // number stand apart, as in `perform`.
     pub fn of<I: Copy>(
         ring: u32,
         head: u64,

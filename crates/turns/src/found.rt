@@ -18,7 +18,7 @@ pub struct Found {
 }
 
 impl Found {
-    // What the worker with this record finds, on a ring of `ring` cells.
+    // What the worker with this record finds, on a ring of `ring` cells. Ring, head and number stand apart, as in `perform`.
     pub fn of<I: Copy>(ring: u32, head: u64, number: WorkerNo, worker: &Worker<I>) -> Found
         ensures value { result ≡ finds ring head number worker.now }
         ensures bound { result.round.0 ≤ worker.now.ticket.0 }
