@@ -36,7 +36,7 @@ POINTS = {
         ('an array beside the workers', r'let mut enqueues = '),
     ],
     '7': [
-        ('a switch on a row, a kind or a letter', r'^\s+match (row|letter|call|order|phase_of.*|workers\[at\]\.phase|worker\.phase|\(.*ring.*items\)) \{'),
+        ('a switch on a row, a kind or a letter', r'^\s+match (row|due\.row|letter|call|order|items|phase_of.*|workers\[at\]\.phase|worker\.phase|\(.*ring.*items\)) \{'),
     ],
 }
 
@@ -86,7 +86,7 @@ def passed_on():
     """Functions that only pass their own parameters on to one other."""
     for where, name, code in functions():
         body = re.sub(r'//.*', '', code[code.find('\n' + re.match(r' *', code).group(0) + '{'):]).strip()
-        call = re.fullmatch(r'\{\s*([\w:<>, ]+)\(\s*([\w,\s]*?),?\s*\)\s*\}?', body)
+        call = re.fullmatch(r'\{\s*([\w:<>., ]+)\(\s*([\w,\s]*?),?\s*\)\s*\}?', body)
         if call and call.group(2):
             taken = [word for word in re.findall(r'(\w+): ', code[:code.find(') ->')]) if word.islower()]
             given = re.split(r',\s*', call.group(2).strip())
@@ -107,7 +107,7 @@ def facts():
     return [(key, places) for key, places in seen.items() if len(places) > 2]
 
 
-GROUPS = [('control', 'cells', 'workers'), ('found', 'worker', 'cell'), ('ring', 'head', 'number'), ('calls', 'out'), ('header', 'body'), ('safe', 'epoch')]
+GROUPS = [('control', 'cells', 'workers'), ('found|due', 'worker', 'cell'), ('ring', 'head', 'number'), ('calls', 'out'), ('header', 'body'), ('safe', 'epoch')]
 
 
 def groups():
@@ -115,7 +115,7 @@ def groups():
         places = []
         for where, name, code in functions():
             head = code[:code.find(')') if ') ->' not in code else code.find(') ->')]
-            if all(re.search(rf'\b{word}: ', head) for word in group):
+            if all(re.search(rf'\b({word}): ', head) for word in group):
                 places.append(f'{where}: {name}')
         if len(places) > 2 or (places and group == ('safe', 'epoch')):
             yield group, places
