@@ -48,7 +48,8 @@ impl Spell {
     }
 }
 
-// A run with its number: what comes before, and the spell whose steps are told.
+// A run with its number: what comes before, the spell whose steps are told, and whether an epoch is told after it (a line of
+// the output, and nothing that a case of an enum would carry).
 #[derive(Clone, Copy)]
 struct Run<'a> {
     number: u8,

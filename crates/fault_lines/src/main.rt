@@ -19,7 +19,7 @@ fn meant(mark: u8) -> u8 {
     }
 }
 
-// Prints the play as it was given, behind its fault line.
+// Prints the play as it was given, behind its fault line. (A refusal has no text of its own, so that `context` says it.)
 fn tell(rt: &HostRuntime, shown: &str) -> anyhow::Result<()> {
     let bytes: Vec<u8> = shown.bytes().map(meant).collect(rt.alloc())?;
     let mut line = [b' '; FAULT_LINE];

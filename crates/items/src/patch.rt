@@ -46,6 +46,7 @@ impl ItemKind for Patch {
 
     ghost printed = { patch_printed };
 
+    // Each field by its own columns: a function for it would be public here and in play, and could not require its columns.
     fn read(columns: &[u8; ITEM_WIDTH]) -> Result<Patch, ColumnFault> {
         let face = at_column(1, read_number(&columns[0..FACE_WIDTH], 0, FACE_MOST))?;
         let zone = at_column(

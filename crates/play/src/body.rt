@@ -15,13 +15,13 @@ pub(crate) const LF: u8 = b'\n';
 pub(crate) fn open_order(letter: char, line: usize) -> Result<OrderLetter, PlayFault>
     ensures { result ≡ order_letter line (letter_of letter) }
 {
-    match Letter::of(letter) {
-        None => Err(PlayFault::Line {
-            line,
-            fault: LineFault::Letter,
-        }),
-        Some(Letter::Ring) => Err(PlayFault::Header { line }),
-        Some(Letter::Order(found)) => Ok(found),
+    let unknown = PlayFault::Line {
+        line,
+        fault: LineFault::Letter,
+    };
+    match Letter::of(letter).ok_or(unknown)? {
+        Letter::Ring => Err(PlayFault::Header { line }),
+        Letter::Order(found) => Ok(found),
     }
 }
 

@@ -23,6 +23,7 @@ pub fn next_order<'a>(items: ItemChoice, rest: &'a [u8]) -> Option<Next<'a>>
     let first = rest.first()?;
     // a fault's line does not matter here: a fault is no order
     let letter = open_order(char::from(*first), 1).ok()?;
+    // columns and LF by their places: of a split the second part would have to give up its LF again
     let width = Letter::Order(letter).width();
     if rest.len() <= width || rest[width] != LF {
         return None;

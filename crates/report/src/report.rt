@@ -21,8 +21,8 @@ use ring::kind::RingKind;
 use ring::table::*;
 use std::alloc::Global;
 
-// The fault line of a play that has one. Three functions print a line of their own width and writer: one over a closure
-// would have a contract longer than they are.
+// The fault line of a play that has one. Three functions print a line of their own width and writer, behind what they are
+// lent: one over a closure would have a contract longer than they are.
 fn report_fault(heap: Global, fault: PlayFault) -> Result<Vec<u8>, ReportError>
     ensures { Reported result (fault_report fault) }
 {

@@ -83,6 +83,7 @@ fn run(table: &mut Table<'_, u32, Prq>) -> Result<Tally, Refusal> {
     Ok(tally)
 }
 
+// A refusal has no text of its own, only a number, so that `context` says what was refused.
 fn main(rt: HostRuntime) -> anyhow::Result<()> {
     let mut cells = [Cell::fresh(); 64];
     let mut workers = [Worker::idle(); WORKERS];
