@@ -80,7 +80,8 @@ fn fill_row(columns: &mut [u8], fields: &[Field])
     requires fits { row_fits fields.now ≡ true }
     ensures { columns.new ≡ row_text fields.now }
 {
-    // a cursor: of a rest that is split off in a loop nothing is known once the loop is over
+    // a cursor: of a rest that is split off in a loop nothing is known once the loop is over; and each number fits, so that no
+    // write is refused, as the proof says
     let mut at = 0;
     for field in fields {
         let end = at + field.width;

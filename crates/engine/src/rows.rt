@@ -1,4 +1,5 @@
-// Each row reads fields of the worker's record and writes the record whole.
+// Each row reads fields of the worker's record and writes the record whole. Control and record are lent one by one: a struct
+// that holds both `&mut` would have each row promise, besides what it does, that both still are the caller's.
 ghost use Rattle.std.specs.Prelude.{◌≡◌, ◌+◌, ◌≤◌, ◌==◌, if◌then◌else◌, Ok, Err};
 ghost use Rattle.std.specs.Option.{ok_or};
 ghost use Rattle.ring.specs.declared.answers.Refusal.TheVariants.{Misfit, Spent};

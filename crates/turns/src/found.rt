@@ -31,7 +31,7 @@ impl Found {
     }
 }
 
-// The row that a step of this worker performs: one of the kind's, on a ticket within the limit.
+// The row that a step of this worker performs: one of the kind's, on a ticket within the limit. A match on its own phase.
 pub fn row_of<I: Copy>(worker: &Worker<I>) -> Result<KindRow, Refusal>
     ensures value { result ≡ row_of worker.now }
     ensures inside { elim result [ Ok k ↦ (worker.now.phase ≡ Kind k) × (worker.now.ticket.0 < 1000000000000) | Err e ↦ e ≡ Misfit ] }

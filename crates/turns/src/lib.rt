@@ -1,4 +1,5 @@
-// What the rows of a ring kind do to the worker's record and its ticket's cell. Each writes what it changes whole.
+// What the rows of a ring kind do to the worker's record and its ticket's cell, lent one by one. Each writes what it changes
+// whole.
 // For: the crates of ring kinds.
 // Promises: each function leaves record and cell, and answers, as the definition of the same name in ring says; a row that
 // is not the kind's, or a ticket above the limit, is 13.
