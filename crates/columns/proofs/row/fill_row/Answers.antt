@@ -1,18 +1,12 @@
-use Rattle.std.proofs.Common.{◌≡◌, ◌+◌, ◌-◌, leb, ◌++◌, length, get_or, take, drop, pos, sym, ap, ◌∙◌, append-nil, arith, rules}
+use Rattle.std.proofs.Common.{◌≡◌, ◌+◌, ◌-◌, leb, length, get_or, take, drop, pos, sym, ap, ◌∙◌, arith, rules}
 use borrow.Rule.Slice.PartMut.{put_mid}
-use Rattle.std.proofs.lemmas.List.{places, at_drop_all, take_all, length-take-le, length-drop}
+use Rattle.std.proofs.lemmas.List.{places, length-take-le, length-drop}
 use Rattle.std.proofs.lemmas.Bool.{and_parts, leb-true}
 use Rattle.columns.specs.Number.{text}
-use Rattle.columns.specs.Row.{row_width, row_text, row_fits}
+use Rattle.columns.specs.Row.{row_text, row_fits}
 use Rattle.columns.proofs.Laws.{length_field}
 use Rattle.columns.proofs.Rows.{no_field, width_more, fits_more, fills, row_turn}
 use Rattle.columns.proofs.row.fill_row.Goals as goal
-
-pub overflow_add-end : goal.overflow_add-end
-overflow_add-end c = let more = width_more c.args.fields.now c.loop-field.field-index c.loop-field-test.true in search rules
-
-pub slice_bounds-write_number-end : goal.slice_bounds-write_number-end
-slice_bounds-write_number-end c = let more = width_more c.args.fields.now c.loop-field.field-index c.loop-field-test.true in search rules
 
 pub loop-field-preserved : goal.loop-field-preserved
 loop-field-preserved c =
@@ -31,13 +25,3 @@ loop-field-preserved c =
     let len : length ys ≡ w = ap length is ∙ length_field w (pos n) (leb-true (length (text (pos n))) w fit.0) in
     let long : length (put_mid at (at + w - at) xs ys) ≡ length xs = search (rules, places) in
     (omega arith, fit.1, row_turn fs i c.loop-field-test.true at (at + w - at) xs ys (row_text fs) (omega arith) len is c.loop-field.invariant.2)
-
-pub returns : goal.returns
-returns c =
-    let fs = c.args.fields.now in
-    let i = c.loop-field.field-index in
-    let none = at_drop_all row_width fs i c.loop-field-test.false in
-    let last = at_drop_all row_text fs i c.loop-field-test.false in
-    let front = take_all c.loop-field.at c.loop-field.columns (omega arith) in
-    let empty = append-nil (take c.loop-field.at c.loop-field.columns) in
-    sym front ∙ sym empty ∙ ap (λ x. take c.loop-field.at c.loop-field.columns ++ x) (sym last) ∙ c.loop-field.invariant.2

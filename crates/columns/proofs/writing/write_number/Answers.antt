@@ -1,4 +1,4 @@
-use Rattle.std.proofs.Common.{◌≡◌, ◌+◌, ◌-◌, ◌^◌, ◌<◌, ◌≤◌, length, take, pos, refl, ap, ◌∙◌, arith, rules, SFits, to_z, of_z}
+use Rattle.std.proofs.Common.{◌≡◌, ◌+◌, ◌-◌, ◌<◌, ◌≤◌, length, take, pos, refl, ap, ◌∙◌, arith, rules, SFits, to_z, of_z}
 use lib.Signed.{lt_z}
 use Rattle.std.specs.Int.{w128, from_bool}
 use Rattle.std.specs.Prelude.{unsigned_abs}
@@ -9,13 +9,6 @@ use Rattle.columns.specs.Signs.{front}
 use Rattle.columns.specs.Writing.{written}
 use Rattle.columns.proofs.Writers.{written_narrow, number_wide, number_parts}
 use Rattle.columns.proofs.writing.write_number.Goals as goal
-
-pub overflow_cast-magnitude : goal.overflow_cast-magnitude
-overflow_cast-magnitude g c =
-    let fits : SFits w128 c.wide-number.result = search rules in
-    let same = to_z-of_z w128 c.wide-number.result fits in
-    let short : unsigned_abs c.wide-number.result < 2 ^ 64 = g.met.N.ColumnNumber.laws.short c.wide-number.result c.wide-number.ensures.range in
-    record { fits = omega (arith, c.unsigned_abs-size.ensures.value, ap unsigned_abs same) }
 
 pub returns-then-buffer-width : goal.returns-then-buffer-width
 returns-then-buffer-width g c = written_narrow _ _ c.args.buffer.now c.if-buffer-width.true

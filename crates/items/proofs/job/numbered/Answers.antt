@@ -1,4 +1,4 @@
-use Rattle.std.proofs.Common.{◌≡◌, ◌++◌, length, take, drop, pos, Err, sym, refl, ap, ◌∙◌, arith, length-append, rules}
+use Rattle.std.proofs.Common.{◌≡◌, ◌++◌, length, take, drop, pos, Err, sym, refl, ap, ◌∙◌, rules}
 use Rattle.std.proofs.lemmas.Result.{err_from_is_err_and}
 use Rattle.std.specs.Option.{ok_or}
 use Rattle.columns.specs.declared.write_refusal.WriteRefusal.TheVariants.{Range}
@@ -7,9 +7,6 @@ use Rattle.items.specs.Job.{numbered_text, no_number}
 use Rattle.items.specs.Jobs.{numbered_put, numbered_past}
 use Rattle.items.specs.Parts.{last}
 use Rattle.items.proofs.job.numbered.Goals as goal
-
-pub slice_bounds-columns-end-2 : goal.slice_bounds-columns-end-2
-slice_bounds-columns-end-2 c = let h : length c.copy_from_slice.new.self ≡ 6 = search rules in omega (arith, length-append c.copy_from_slice.new.self no_number)
 
 pub returns-in_err-write_number : goal.returns-in_err-write_number
 returns-in_err-write_number c =

@@ -1,22 +1,12 @@
 -- Each way out of the loops, by the first line of what is left.
-use Rattle.std.proofs.Common.{◌≡◌, ◌+◌, ◌-◌, get_or, take, drop, Ok, Err, sym, ap, ◌∙◌, subst, arith}
-use Rattle.std.proofs.lemmas.List.{at_drop_all}
+use Rattle.std.proofs.Common.{◌≡◌, ◌+◌, ◌-◌, get_or, take, drop, Ok, sym, ap, ◌∙◌, subst, arith}
 use Rattle.play.specs.Letters.{letter_of}
 use Rattle.play.specs.Orders.{plain, heard, order_reading}
 use Rattle.play.specs.Play.{order_letter}
 use Rattle.play.proofs.Cuts.{Clear}
-use Rattle.play.proofs.FirstLine.{fault_in}
-use Rattle.play.proofs.Places.{letter_at, stops_at, breaks_at, runs_on_at, column_at, goes_on_at}
+use Rattle.play.proofs.Places.{stops_at, breaks_at, runs_on_at, column_at, goes_on_at}
 use Rattle.play.proofs.body.first_fault.Goals as goal
 use Rattle.play.proofs.body.first_fault.Goals.{then-column-body-via-then-column-body, then-column-body-via-else-column-body+then-body-column-eq-LF, then-end-body-via-then-end-body, then-end-body-via-else-end-body+then-body-end-ne-LF}
-
-pub returns-then-at-body : goal.returns-then-at-body
-returns-then-at-body c = sym (at_drop_all (fault_in c.args.items c.reading.line) c.args.body.now c.reading.at (omega arith)) ∙ c.reading.invariant.2
-
-pub returns-in-Err : goal.returns-in-Err
-returns-in-Err c =
-    let opens : order_letter c.reading.line (letter_of (get_or c.args.body.now c.reading.at 0)) ≡ Err c.in-Err.fault = cc in
-    sym (letter_at c.args.items c.reading.line c.args.body.now c.reading.at (omega arith) c.in-Err.fault opens) ∙ c.reading.invariant.2
 
 pub returns-then-column-body : goal.returns-then-column-body
 returns-then-column-body c =

@@ -14,12 +14,6 @@ returns-in_err-write_number c =
     let v = written_err 8 (pos c.args.self.face) (replicate 8 32) c.write_number.new.buffer c.write_number.result c.in_err-write_number.field-0.0 refl c.write_number.ensures c.in_err-write_number.was in
     p.1 ∙ ap (λ x. Err x) (p.2 ∙ v.0) ∙ sym (past_face c.args.self v.1)
 
-pub slice_bounds-columns-end-2 : goal.slice_bounds-columns-end-2
-slice_bounds-columns-end-2 c =
-    let face = c.write_number.new.buffer in
-    let room : length face ≡ 8 = search rules in
-    omega (arith, length-append face (replicate 7 32))
-
 pub returns-in_err-write_number-2 : goal.returns-in_err-write_number-2
 returns-in_err-write_number-2 c =
     let face = c.write_number.new.buffer in
