@@ -1,30 +1,15 @@
 -- The length, then the first line, then the body.
-use Rattle.std.proofs.Common.{ltb, length, Err, sym, ap, ◌∙◌, subst}
+use Rattle.std.proofs.Common.{sym, ap, ◌∙◌}
 use Rattle.std.proofs.lemmas.List.{take_rest}
-use Rattle.std.proofs.lemmas.Result.{err_from_is_err_and}
-use Rattle.std.proofs.lemmas.Bool.{cond-true, lt-ltb}
 use Rattle.play.specs.Lines.{lines_of}
-use Rattle.play.specs.Play.{order_lines, fault_part, longest}
-use Rattle.play.specs.Promise.{PlayRead}
+use Rattle.play.specs.Play.{order_lines, fault_part}
 use Rattle.play.proofs.ItemKinds.{item_laws}
 use Rattle.play.proofs.PlayText.{text_law}
-use Rattle.play.proofs.WholePlay.{header_fault, body_fault, body_orders}
+use Rattle.play.proofs.WholePlay.{body_fault, body_orders}
 use Rattle.play.proofs.play.read_play.Goals as goal
 
-pub returns-then-bytes-gt-LONGEST : goal.returns-then-bytes-gt-LONGEST
-returns-then-bytes-gt-LONGEST c =
-    let bytes = c.args.bytes.now in
-    record { reads = cond-true (ltb longest (length bytes)) _ _ (lt-ltb longest (length bytes) c.if-bytes-gt-LONGEST.true); text = text_law item_laws bytes }
-
-pub returns-in_err-header : goal.returns-in_err-header
-returns-in_err-header c =
-    let bytes = c.args.bytes.now in
-    let p = err_from_is_err_and c.from_residual.result c.from_residual.ensures.1 in
-    let said = sym c.read_first_line.ensures.value ∙ c.in_err-header.was in
-    record {
-      reads = subst (PlayRead bytes) (sym (p.1 ∙ ap Err p.2)) (header_fault bytes c.if-bytes-gt-LONGEST.false c.in_err-header.field-0.0 said);
-      text = text_law item_laws bytes;
-    }
+pub returns-in_err-header-clause-text : goal.returns-in_err-header-clause-text
+returns-in_err-header-clause-text c = text_law item_laws c.args.bytes.now
 
 pub returns-in-Some : goal.returns-in-Some
 returns-in-Some c =
