@@ -8,5 +8,5 @@
 pub mod assign;
 pub mod lay_out;
 pub mod occupied;
-mod step;
+pub mod step;
 pub mod table;

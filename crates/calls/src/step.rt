@@ -4,7 +4,7 @@ ghost use Rattle.ring.specs.declared.call.Call.TheVariants.{Step};
 ghost use Rattle.ring.specs.Phases.{kind_side};
 ghost use Rattle.ring.specs.Turns.{Performed};
 ghost use Rattle.ring.specs.Calls.{fitting, stepped, called};
-ghost use Rattle.calls.specs.Promise.{Continues};
+ghost use Rattle.calls.specs.Promise.{table, left, Continues};
 ghost use Rattle.calls.specs.Lent.{table_of, left_by, SameMemory};
 
 use crate::table::{Table, record_of};
@@ -51,22 +51,45 @@ impl<'m, I: Copy, K: RingKind<I>> Table<'m, I, K> {
         ensures memory { SameMemory self.old self.new }
         ensures rows { left_by self.new result ≡ stepped K.RingKind.step (table_of self.old) number }
     {
-        let mut control = self.control;
         let cells = &mut *self.cells;
         let workers = &mut *self.workers;
-        let at = record_of(&control, cells.len(), workers, number)?;
+        let at = record_of(&self.control, cells.len(), workers, number)?;
         match workers[at].phase {
             Phase::Idle => Err(Refusal::Idle),
             Phase::Engine(row) => {
+                let mut control = self.control;
                 let reply = engine_turn(&mut control, &mut workers[at], row);
                 self.control = control;
                 reply
             }
             Phase::Kind(row) => {
-                let slot = workers[at].ticket.slot(control.cells);
+                let slot = workers[at].ticket.slot(self.control.cells);
                 let (worker, cell) = (&mut workers[at], &mut cells[slot]);
-                kind_turn(self.kind, &control, number, row, worker, cell)
+                kind_turn(self.kind, &self.control, number, row, worker, cell)
             }
         }
     }
+}
+
+// Performs one row for one worker. A function beside the method, for callers whose control stands by itself, behind a `&mut`:
+// it is read into a table, and written back.
+pub fn step<I: Copy, K: RingKind<I>>(
+    kind: &K,
+    control: &mut Control,
+    cells: &mut [Cell<I>],
+    workers: &mut [Worker<I>],
+    number: WorkerNo,
+) -> Result<Answer<I>, Refusal>
+    ensures rows { left control.new cells.new workers.new result ≡ called K.RingKind.step (table control.old cells.old workers.old) (Step number) }
+    ensures books { Continues K.RingKind.step (table control.old cells.old workers.old) (Step number) (table control.new cells.new workers.new) }
+{
+    let mut table = Table {
+        kind,
+        control: *control,
+        cells,
+        workers,
+    };
+    let reply = table.step(number);
+    *control = table.control;
+    reply
 }

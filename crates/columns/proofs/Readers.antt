@@ -1,28 +1,34 @@
 -- The reader's answers: the pass as the code makes it, and the answer's tie to the columns.
-use Rattle.std.proofs.Common.{◌≡◌, ℕ, ◌+◌, ◌-◌, ◌*◌, ◌^◌, ◌<◌, ◌≤◌, Bool, true, false, cond, ◌&&◌, eqb, List, [], ◌∷◌, ◌++◌, length, min, fold, ℤ, pos, negsuc, ◌≤ℤ◌, IfOk, Some, None, Ok, Err, Option, Result, sym, refl, ap, ◌∙◌, subst, inl, inr, ⊎_elim, arith, zero, suc, ◌/◌, ◌%◌, neg_ℤ, leb}
+use Rattle.std.proofs.Common.{◌≡◌, ℕ, ◌+◌, ◌-◌, ◌*◌, ◌^◌, ◌<◌, ◌≤◌, Bool, true, false, cond, ◌&&◌, eqb, List, [], ◌∷◌, length, fold, ℤ, pos, negsuc, ◌≤ℤ◌, IfOk, Some, None, Ok, Err, Option, Result, sym, refl, ap, ◌∙◌, subst, inl, inr, ⊎_elim, arith, suc, neg_ℤ, leb}
 use lib.Signed.{le_z}
-use Rattle.std.specs.Prelude.{MatchOption, unsigned_abs}
-use Rattle.std.proofs.lemmas.Bool.{cases_lt, cond_both, cond-true, cond-false, and_cases, and_from, and_parts, and_right, and_left, lt-leb, cases_Bool, leb-true}
-use Rattle.std.proofs.lemmas.Bool.Decides.{nat_tests}
+use Rattle.std.specs.Prelude.{MatchOption, unsigned_abs, nat_lt}
+use Rattle.std.proofs.lemmas.Bool.{cases_lt, cond_both, lt-ltb, le-ltb, ne_eqb, cond-true, cond-false, and_cases, and_from, and_parts, and_right, and_left, lt-leb, cases_Bool, leb-true}
 use Rattle.std.specs.Option.{ok_or, option_map}
 use Rattle.columns.specs.Number.{number, Writes}
 use Rattle.columns.specs.Reading.{ReadsSigned, signed_of, signed_reading}
 use Rattle.columns.specs.declared.read_refusal.ReadRefusal.{ReadRefusal}
 use Rattle.columns.specs.declared.read_refusal.ReadRefusal.TheVariants.{Form, Range}
 use Rattle.columns.specs.NumberTypes.{answer_of, NumberLaws}
-use Rattle.columns.specs.Scanning.{long, held_size, held, more, digit_from, seen_after, seen_number, signed_within, with_digit}
+use Rattle.columns.specs.Scanning.{long, held, digit_from, seen_after, seen_number, sized, signed_within}
 use Rattle.columns.specs.declared.scanning.Seen.{Seen}
-use Rattle.columns.specs.declared.scanning.Seen.TheVariants.{Blanks, Minus, Number, Nothing}
+use Rattle.columns.specs.declared.scanning.Seen.TheVariants.{Blanks, Minus, Number, Long, Nothing}
+use Rattle.columns.specs.declared.scanning.Sign.{Sign}
+use Rattle.columns.specs.declared.scanning.Sign.TheVariants.{Positive, Negative}
 use Rattle.columns.proofs.Laws.{number_writes, number_of_field, number_from_writes, writes_from_number, true_leZ, false_leZ, leZ_true, ltZ_false}
 use Rattle.columns.proofs.Scan.{Scan, blanks, minus, so_far, spoilt, step, scan, found, scan_field}
 use Rattle.columns.proofs.Shapes.{scan_exact}
 use Rattle.columns.proofs.Texts.{push}
 
+-- a magnitude, if 64 bits hold it
+abbrev pub kept : ℕ → Option ℕ
+kept n = cond (nat_lt n long) (Some n) None
+
 -- the pass of any size, as the code holds it
 abbrev pub shown : Scan → Seen
 shown blanks = Blanks
 shown minus = Minus
-shown (so_far z) = Number (held z)
+shown (so_far (pos n)) = sized Positive (kept n)
+shown (so_far (negsuc n)) = sized Negative (kept (n + 1))
 shown spoilt = Nothing
 
 pub number_found : (cs : List ℕ) → number cs ≡ found (scan blanks cs)
@@ -39,64 +45,17 @@ number_found cs = go (number cs) (found (scan blanks cs)) refl refl where
       let p : found (scan blanks cs) ≡ Some y = ap (λ l. found (scan blanks l)) (number_writes cs y e) ∙ ap found (scan_field (length cs) y) in
       cc
 
--- what is held of a magnitude
+-- a number that 64 bits hold, and one that they don't
 
-size_capped : (n : ℕ) → min (held_size n) long ≡ min n long
-size_capped n = grind arith
+short_sized : (sign : Sign) (n : ℕ) → n < 2 ^ 64 → sized sign (kept n) ≡ Number sign n
+short_sized sign n h = ap (sized sign) (cond-true _ _ _ (lt-ltb n long h))
 
-size_more : (n d : ℕ) → d < 10 → min n long * 10 + d ≡ held_size (n * 10 + d)
-size_more n d h =
-    let q : (n * 10 + d) / 10 ≡ n = omega arith in
-    let r : (n * 10 + d) % 10 ≡ d = omega arith in
-    sym (ap (λ x. min x long * 10 + (n * 10 + d) % 10) q ∙ ap (λ x. min n long * 10 + x) r)
-
-size_small : (n : ℕ) → n < 2 ^ 64 → held_size n ≡ n
-size_small n h = grind arith
-
-size_long : (n : ℕ) → 2 ^ 64 ≤ n → 2 ^ 64 ≤ held_size n
-size_long n h = grind arith
-
-some_size : (n : ℕ) → 0 < held_size (n + 1)
-some_size n = grind arith
+long_sized : (sign : Sign) (n : ℕ) → 2 ^ 64 ≤ n → sized sign (kept n) ≡ Long
+long_sized sign n h = ap (sized sign) (cond-false _ _ _ (le-ltb n long h))
 
 shown_cond : (b : Bool) (s t : Scan) → cond b (shown s) (shown t) ≡ shown (cond b s t)
 shown_cond true s t = refl
 shown_cond false s t = refl
-
-size_zero : (n : ℕ) → eqb (held_size n) 0 ≡ eqb n 0
-size_zero n = grind (arith, nat_tests)
-
--- a negative number by its magnitude
-
-more_negative : (k d : ℕ) → 0 < k → more (neg_ℤ (pos k)) d ≡ neg_ℤ (pos (min k long * 10 + d))
-more_negative zero d h = absurd (omega arith)
-more_negative (suc k) d h = ap (λ m. neg_ℤ (pos (min m long * 10 + d))) (omega arith)
-
-digit_negative : (k d : ℕ) → 0 < k → with_digit (neg_ℤ (pos k)) d ≡ Number (more (neg_ℤ (pos k)) d)
-digit_negative zero d h = absurd (omega arith)
-digit_negative (suc k) d h = refl
-
-size_negative : (k : ℕ) → unsigned_abs (neg_ℤ (pos k)) ≡ k
-size_negative zero = refl
-size_negative (suc k) = refl
-
--- one more digit
-
-more_pos : (n d : ℕ) → d < 10 → with_digit (held (pos n)) d ≡ shown (cond (eqb n 0) spoilt (so_far (push (pos n) d)))
-more_pos n d h =
-    ap (λ b. cond b Nothing (Number (more (held (pos n)) d))) (size_zero n)
-    ∙ ap (λ m. cond (eqb n 0) Nothing (Number (pos (m * 10 + d)))) (size_capped n)
-    ∙ ap (λ m. cond (eqb n 0) Nothing (Number (pos m))) (size_more n d h)
-    ∙ shown_cond (eqb n 0) spoilt (so_far (push (pos n) d))
-
-more_neg : (n d : ℕ) → d < 10 → with_digit (held (negsuc n)) d ≡ Number (held (push (negsuc n) d))
-more_neg n d h =
-    let some : 0 < held_size (n + 1) = some_size n in
-    let e : (n + 1) * 10 + d ≡ n * 10 + 9 + d + 1 = omega arith in
-    digit_negative (held_size (n + 1)) d some
-    ∙ ap Number (more_negative (held_size (n + 1)) d some
-    ∙ ap (λ m. neg_ℤ (pos (m * 10 + d))) (size_capped (n + 1))
-    ∙ ap (λ m. neg_ℤ (pos m)) (size_more (n + 1) d h ∙ ap held_size e))
 
 by_digit : (low c : ℕ) (t : Seen) (s : Scan) → (low ≤ c → c ≤ 57 → t ≡ shown s) → cond (digit_from low c) t Nothing ≡ shown (cond (digit_from low c) s spoilt)
 by_digit low c t s h =
@@ -107,37 +66,55 @@ by_digit low c t s h =
 
 shown_step : (s : Scan) (c : ℕ) → seen_after (shown s) c ≡ shown (step s c)
 shown_step blanks c =
-    ap (λ t. cond (eqb c 32) Blanks (cond (eqb c 45) Minus t)) (by_digit 48 c _ _ (λ lo hi. ap (λ n. Number (pos n)) (sym (size_small (c - 48) (omega arith)))))
+    ap (λ t. cond (eqb c 32) Blanks (cond (eqb c 45) Minus t)) (by_digit 48 c _ _ (λ lo hi. sym (short_sized Positive (c - 48) (omega arith))))
     ∙ ap (λ t. cond (eqb c 32) Blanks t) (shown_cond (eqb c 45) minus _) ∙ shown_cond (eqb c 32) blanks _
 shown_step minus c =
-    by_digit 49 c _ _ (λ lo hi. let e : c - 48 ≡ c - 49 + 1 = omega arith in ap (λ n. Number (neg_ℤ (pos n))) (e ∙ sym (size_small (c - 49 + 1) (omega arith))))
-shown_step (so_far (pos n)) c = by_digit 48 c _ _ (λ lo hi. more_pos n (c - 48) (omega arith))
-shown_step (so_far (negsuc n)) c = by_digit 48 c _ _ (λ lo hi. more_neg n (c - 48) (omega arith))
+    by_digit 49 c _ _ (λ lo hi. let e : c - 48 ≡ c - 49 + 1 = omega arith in ap (Number Negative) e ∙ sym (short_sized Negative (c - 49 + 1) (omega arith)))
+shown_step (so_far (pos n)) c =
+    elim (cases_lt n (2 ^ 64)) [
+      | inl small ↦ ap (λ t. seen_after t c) (short_sized Positive n small) ∙ by_digit 48 c _ _ (λ lo hi. shown_cond (eqb n 0) spoilt (so_far (push (pos n) (c - 48))))
+      | inr large ↦
+          ap (λ t. seen_after t c) (long_sized Positive n large)
+          ∙ by_digit 48 c _ _ (λ lo hi. sym (long_sized Positive (n * 10 + (c - 48)) (omega arith)) ∙ ap shown (sym (cond-false _ _ _ (ne_eqb n 0 (λ e. omega arith)))))
+    ]
+shown_step (so_far (negsuc n)) c =
+    elim (cases_lt (n + 1) (2 ^ 64)) [
+      | inl small ↦ ap (λ t. seen_after t c) (short_sized Negative (n + 1) small) ∙ by_digit 48 c _ _ (λ lo hi. let e : (n + 1) * 10 + (c - 48) ≡ n * 10 + 9 + (c - 48) + 1 = omega arith in cond-false _ _ _ (ne_eqb (n + 1) 0 (λ z. omega arith)) ∙ ap (λ m. sized Negative (kept m)) e)
+      | inr large ↦ ap (λ t. seen_after t c) (long_sized Negative (n + 1) large) ∙ by_digit 48 c _ _ (λ lo hi. sym (long_sized Negative (n * 10 + 9 + (c - 48) + 1) (omega arith)))
+    ]
 shown_step spoilt c = refl
 
 shown_fold : (s : Scan) (cs : List ℕ) → fold seen_after (shown s) cs ≡ shown (scan s cs)
 shown_fold s [] = refl
 shown_fold s (c ∷ cs) = ap (λ t. fold seen_after t cs) (shown_step s c) ∙ shown_fold (step s c) cs
 
+held_small : (z : ℤ) → unsigned_abs z < 2 ^ 64 → held z ≡ z
+held_small z h = cond-true _ _ _ (lt-ltb (unsigned_abs z) long h)
+
+held_long : (z : ℤ) → 2 ^ 64 ≤ unsigned_abs z → held z ≡ pos long
+held_long z h = cond-false _ _ _ (le-ltb (unsigned_abs z) long h)
+
 found_shown : (s : Scan) → seen_number (shown s) ≡ option_map held (found s)
 found_shown blanks = refl
 found_shown minus = refl
-found_shown (so_far z) = refl
+found_shown (so_far (pos n)) =
+    elim (cases_lt n (2 ^ 64)) [
+      | inl small ↦ ap seen_number (short_sized Positive n small) ∙ ap Some (sym (held_small (pos n) small))
+      | inr large ↦ ap seen_number (long_sized Positive n large) ∙ ap Some (sym (held_long (pos n) large))
+    ]
+found_shown (so_far (negsuc n)) =
+    let e : n + 1 ≡ suc n = omega arith in
+    elim (cases_lt (n + 1) (2 ^ 64)) [
+      | inl small ↦ ap seen_number (short_sized Negative (n + 1) small) ∙ ap (λ m. Some (neg_ℤ (pos m))) e ∙ ap Some (sym (held_small (negsuc n) (omega arith)))
+      | inr large ↦ ap seen_number (long_sized Negative (n + 1) large) ∙ ap Some (sym (held_long (negsuc n) (omega arith)))
+    ]
 found_shown spoilt = refl
-
-pub fold_push : (s : Seen) (cs : List ℕ) (c : ℕ) → fold seen_after s (cs ++ (c ∷ [])) ≡ seen_after (fold seen_after s cs) c
-fold_push s [] c = refl
-fold_push s (b ∷ cs) c = fold_push (seen_after s b) cs c
 
 -- the pass over all columns
 pub shown_all : (cs : List ℕ) → seen_number (fold seen_after Blanks cs) ≡ option_map held (number cs)
 shown_all cs = ap seen_number (shown_fold blanks cs) ∙ found_shown (scan blanks cs) ∙ ap (option_map held) (sym (number_found cs))
 
 -- the answers
-
-held_small : (z : ℤ) → unsigned_abs z < 2 ^ 64 → held z ≡ z
-held_small (pos n) h = ap pos (size_small n h)
-held_small (negsuc n) h = let e : n + 1 ≡ suc n = omega arith in ap (λ m. neg_ℤ (pos m)) (size_small (n + 1) (omega arith) ∙ e)
 
 -- no long number is between two short ones
 outside : (least most z : ℤ) → unsigned_abs least < 2 ^ 64 → unsigned_abs most < 2 ^ 64 → 2 ^ 64 ≤ unsigned_abs z → (le_z least z && le_z z most) ≡ false
@@ -146,16 +123,12 @@ outside least (negsuc m) (pos n) f g h = and_right (le_z least (pos n)) false re
 outside (pos l) most (negsuc n) f g h = refl
 outside (negsuc l) most (negsuc n) f g h = and_left _ (le_z (negsuc n) most) (lt-leb n l (omega arith))
 
-held_long : (z : ℤ) → 2 ^ 64 ≤ unsigned_abs z → 2 ^ 64 ≤ unsigned_abs (held z)
-held_long (pos n) h = size_long n h
-held_long (negsuc n) h = omega (arith, size_negative (held_size (n + 1)), size_long (n + 1) (omega arith))
-
 -- a number past 64 bits is out of range, as it is held too
 within_held : (least most z : ℤ) → unsigned_abs least < 2 ^ 64 → unsigned_abs most < 2 ^ 64 → signed_within least most (Some (held z)) ≡ signed_of least most (Some z)
 within_held least most z l m =
     elim (cases_lt (unsigned_abs z) (2 ^ 64)) [
       | inl small ↦ ap (λ y. signed_within least most (Some y)) (held_small z small)
-      | inr large ↦ cond-false _ _ _ (outside least most (held z) l m (held_long z large)) ∙ sym (cond-false _ _ _ (outside least most z l m large))
+      | inr large ↦ cond-false _ _ _ (outside least most (held z) l m (omega (arith, ap unsigned_abs (held_long z large)))) ∙ sym (cond-false _ _ _ (outside least most z l m large))
     ]
 
 pub form_told : (least most : ℤ) (o : Option ℤ) (e : ReadRefusal) → ok_or (option_map held o) Form ≡ Err e → Err e ≡ signed_of least most o

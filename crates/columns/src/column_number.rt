@@ -51,7 +51,7 @@ impl ColumnNumber for u16 {
     ghost laws = { unsigned_laws w16 (lit≤ tt) };
 
     fn wide(self) -> i128 {
-        i128::from(self)
+        i128::from(self) // from 0 to 2^16 - 1
     }
 
     fn narrow(wide: i128) -> Option<u16> {
@@ -73,7 +73,7 @@ impl ColumnNumber for u32 {
     ghost laws = { unsigned_laws w32 (lit≤ tt) };
 
     fn wide(self) -> i128 {
-        i128::from(self)
+        i128::from(self) // from 0 to 2^32 - 1
     }
 
     fn narrow(wide: i128) -> Option<u32> {
@@ -95,7 +95,7 @@ impl ColumnNumber for u64 {
     ghost laws = { unsigned_laws w64 (lit≤ tt) };
 
     fn wide(self) -> i128 {
-        i128::from(self)
+        i128::from(self) // from 0 to 2^64 - 1
     }
 
     fn narrow(wide: i128) -> Option<u64> {
@@ -117,7 +117,7 @@ impl ColumnNumber for i16 {
     ghost laws = { signed_laws w16 (lit≤ tt) };
 
     fn wide(self) -> i128 {
-        i128::from(self)
+        i128::from(self) // from -2^15 to 2^15 - 1
     }
 
     fn narrow(wide: i128) -> Option<i16> {
@@ -139,7 +139,7 @@ impl ColumnNumber for i64 {
     ghost laws = { signed_laws w64 (lit≤ tt) };
 
     fn wide(self) -> i128 {
-        i128::from(self)
+        i128::from(self) // from -2^63 to 2^63 - 1
     }
 
     fn narrow(wide: i128) -> Option<i64> {

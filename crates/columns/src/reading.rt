@@ -8,7 +8,9 @@ use crate::column_number::ColumnNumber;
 use crate::read_refusal::ReadRefusal;
 use crate::scanning::scanned;
 
-// The number from `least` to `most` that the columns write.
+// The number from `least` to `most` that the columns write. Inlined, so that the pass is laid out column by column where a
+// caller knows how many there are.
+#[inline(always)]
 pub fn read_number<N: ColumnNumber>(columns: &[u8], least: N, most: N) -> Result<N, ReadRefusal>
     ensures value { result ≡ N.reading least most columns.now }
     ensures relation { N.reads least most columns.now result }

@@ -2,30 +2,43 @@
 ghost use Rattle.std.specs.Prelude.{◌≡◌};
 ghost use Rattle.std.specs.Option.{option_map};
 ghost use Rattle.columns.specs.Number.{number};
-ghost use Rattle.columns.specs.Scanning.{held, seen_after, seen_number, with_digit};
+ghost use Rattle.columns.specs.declared.scanning.Seen.TheVariants.{Number};
+ghost use Rattle.columns.specs.Scanning.{held, more, seen_after, seen_number, with_digit};
 
 // The first number that 64 bits don't hold.
 const LONG: i128 = 1 << 64;
 
-// Nothing stays nothing: the fold goes over all columns, with one way through.
-// What the columns so far are: blanks, blanks and a minus, a number, or nothing that can become one.
+// On which side of zero a number is. (Zero is positive.)
+#[derive(Clone, Copy)]
+enum Sign {
+    Positive,
+    Negative,
+}
+
+// Nothing stays nothing: the pass goes over all columns, with one way through.
+// What the columns so far are: blanks, blanks and a minus, a number, a number past 64 bits, or nothing that can become one.
+// (A sign and 64 bits: with a number of 128 bits the pass is too long to be laid out column by column, and an item takes
+// up to twice the time.)
 #[derive(Clone, Copy)]
 enum Seen {
     Blanks,
     Minus,
-    Number(i128),
+    Number(Sign, u64),
+    Long,
     Nothing,
 }
 
-// The number that the columns write, if they write one; one past 64 bits is held as one past them.
+// The number that the columns write, if they write one; one past 64 bits is held as the first such. A loop, and inlined: of the
+// library's `fold` the compiler makes one function for fields of all widths, and a job takes twice the time.
+#[inline(always)]
 pub fn scanned(columns: &[u8]) -> Option<i128>
     ensures { result ≡ option_map held (number columns.now) }
 {
-    whole(
-        columns
-            .iter()
-            .fold(Seen::Blanks, |seen, column| next_seen(seen, *column)),
-    )
+    let mut seen = Seen::Blanks;
+    for column in columns {
+        seen = next_seen(seen, *column);
+    }
+    whole(seen)
 }
 
 // What one more column makes of what was seen.
@@ -35,32 +48,44 @@ fn next_seen(seen: Seen, column: u8) -> Seen
     match (seen, column) {
         (Seen::Blanks, b' ') => Seen::Blanks,
         (Seen::Blanks, b'-') => Seen::Minus,
-        (Seen::Blanks, b'0'..=b'9') => Seen::Number(i128::from(column - b'0')),
-        (Seen::Minus, b'1'..=b'9') => Seen::Number(-i128::from(column - b'0')),
-        (Seen::Number(so_far), b'0'..=b'9') => one_more_digit(so_far, column - b'0'),
+        (Seen::Blanks, b'0'..=b'9') => first_digit(Sign::Positive, column - b'0'),
+        (Seen::Minus, b'1'..=b'9') => first_digit(Sign::Negative, column - b'0'),
+        (Seen::Number(sign, n), b'0'..=b'9') => one_more_digit(sign, n, column - b'0'),
+        (Seen::Long, b'0'..=b'9') => Seen::Long,
         _ => Seen::Nothing,
     }
 }
 
-// No digit follows a first zero. Past 64 bits the digits before the last no longer count.
-fn one_more_digit(so_far: i128, digit: u8) -> Seen
-    ensures { result ≡ with_digit so_far digit }
+fn first_digit(sign: Sign, digit: u8) -> Seen
+    ensures { result ≡ Number sign digit }
 {
-    let digit = i128::from(digit);
+    Seen::Number(sign, u64::from(digit))
+}
+
+// No digit follows a first zero.
+fn one_more_digit(sign: Sign, so_far: u64, digit: u8) -> Seen
+    ensures { result ≡ with_digit sign so_far digit }
+{
     if so_far == 0 {
-        Seen::Nothing
-    } else if so_far < 0 {
-        Seen::Number(so_far.max(-LONG) * 10 - digit)
-    } else {
-        Seen::Number(so_far.min(LONG) * 10 + digit)
+        return Seen::Nothing;
     }
+    appended(so_far, digit).map_or(Seen::Long, |n| Seen::Number(sign, n))
+}
+
+// The number with a digit behind it, while 64 bits hold it.
+fn appended(n: u64, digit: u8) -> Option<u64>
+    ensures { result ≡ more n digit }
+{
+    n.checked_mul(10)?.checked_add(u64::from(digit))
 }
 
 fn whole(seen: Seen) -> Option<i128>
     ensures { result ≡ seen_number seen }
 {
     match seen {
-        Seen::Number(so_far) => Some(so_far),
+        Seen::Number(Sign::Positive, n) => Some(i128::from(n)),
+        Seen::Number(Sign::Negative, n) => Some(-i128::from(n)),
+        Seen::Long => Some(LONG),
         Seen::Blanks | Seen::Minus | Seen::Nothing => None,
     }
 }

@@ -114,25 +114,23 @@ fn make<K: RingKind<u8>>(
     }
 }
 
-// Makes each run on a new table with as many cells and two workers.
-fn make_all<const CELLS: usize, K: RingKind<u8>>(
+// Lays the memory out anew for each run, over whatever the run before left in it, and makes the run.
+fn make_all<K: RingKind<u8>>(
     rt: &HostRuntime,
     kind: &K,
+    cells: &mut [Cell<u8>],
+    workers: &mut [Worker<u8>],
     runs: &[Run],
-) -> io::Result<()>
-    requires { CELLS < 2000 }
-{
+) -> io::Result<()> {
     for run in runs {
-        let mut cells: [Cell<u8>; CELLS] = [Cell::fresh(); CELLS];
-        let mut workers = [Worker::idle(); 2];
-        match lay_out(&mut cells, &mut workers) {
+        match lay_out(cells, workers) {
             Err(refusal) => println!(rt; "{:>3} {:>6}", run.number, refusal.number())?,
             Ok(control) => {
                 let mut table = Table {
                     kind,
                     control,
-                    cells: &mut cells,
-                    workers: &mut workers,
+                    cells: &mut *cells,
+                    workers: &mut *workers,
                 };
                 make(rt, &mut table, run)?;
             }
@@ -153,39 +151,61 @@ fn lay_many<const CELLS: usize>(rt: &HostRuntime) -> io::Result<()>
     }
 }
 
-// The runs on a ring of one cell and of two, in the order of their numbers.
-fn worked_runs(rt: &HostRuntime) -> io::Result<()> {
+// Runs on a ring of one cell, till it is full and closed.
+fn till_closed(
+    rt: &HostRuntime,
+    cells: &mut [Cell<u8>],
+    workers: &mut [Worker<u8>],
+) -> io::Result<()> {
     let placed = enqueues(1, 7, 7);
     let full = enqueues(1, 8, 6);
-    let passed = dequeues(1, 6);
-    make_all::<1, _>(
+    make_all(
         rt,
         &Prq,
+        cells,
+        workers,
         &[
             Run::new(1, &[], placed),
             Run::new(2, &[placed], full),
             Run::new(3, &[placed, full], enqueues(1, 9, 2)),
         ],
-    )?;
-    make_all::<2, _>(
+    )
+}
+
+// Runs on a ring of two cells, which each kind passes over.
+fn passed_over(
+    rt: &HostRuntime,
+    cells: &mut [Cell<u8>],
+    workers: &mut [Worker<u8>],
+) -> io::Result<()> {
+    let passed = dequeues(1, 6);
+    make_all(
         rt,
         &Prq,
+        cells,
+        workers,
         &[
             Run::to_epoch(4, passed),
             Run::new(5, &[passed], enqueues(1, 7, 12)),
         ],
     )?;
-    make_all::<2, _>(rt, &Crq, &[Run::to_epoch(6, dequeues(1, 5))])?;
-    make_all::<2, _>(
-        rt,
-        &Prq,
-        &[Run::new(7, &[enqueues(1, 7, 6)], dequeues(2, 7))],
-    )?;
-    make_all::<1, _>(
-        rt,
-        &Prq,
-        &[Run::new(8, &[placed, dequeues(1, 1)], dequeues(2, 6))],
-    )
+    let other = Run::to_epoch(6, dequeues(1, 5));
+    make_all(rt, &Crq, cells, workers, &[other])?;
+    let stopped = [enqueues(1, 7, 6)];
+    let late = Run::new(7, &stopped, dequeues(2, 7));
+    make_all(rt, &Prq, cells, workers, &[late])
+}
+
+// The runs in the order of their numbers, on one cell or on two, with the same two workers.
+fn worked_runs(rt: &HostRuntime) -> io::Result<()> {
+    let mut one = [Cell::fresh(); 1];
+    let mut two = [Cell::fresh(); 2];
+    let mut crew = [Worker::idle(); 2];
+    till_closed(rt, &mut one, &mut crew)?;
+    passed_over(rt, &mut two, &mut crew)?;
+    let before = [enqueues(1, 7, 7), dequeues(1, 1)];
+    let resting = Run::new(8, &before, dequeues(2, 6));
+    make_all(rt, &Prq, &mut one, &mut crew, &[resting])
 }
 
 fn main(rt: HostRuntime) -> io::Result<()> {

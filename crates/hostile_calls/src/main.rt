@@ -4,7 +4,9 @@
 
 ghost use Rattle.std.specs.Prelude.{ℕ, ◌<◌, ◌≤◌};
 
+use calls::assign::*;
 use calls::lay_out::lay_out;
+use calls::step::step;
 use calls::table::Table;
 use crq::Crq;
 use prq::Prq;
@@ -94,28 +96,30 @@ fn kind_rows(rt: &HostRuntime, control: Control) -> io::Result<()> {
     each(rt, control, &cases)
 }
 
-// Counts and numbers that do not fit the table.
+// Counts and numbers that do not fit the table: by the functions over its parts, and then by a table of them.
 fn misfits(rt: &HostRuntime, control: Control) -> io::Result<()> {
+    let mut control = control;
     let mut two = [Cell::<u32>::fresh(); 2];
     let mut one = [Cell::<u32>::fresh(); 1];
     let mut workers = [Worker::<u32>::idle(); 1];
-    let mut misfit = Table {
+    let counts = step(&Prq, &mut control, &mut two, &mut workers, WorkerNo(1));
+    let nobody = step(&Prq, &mut control, &mut one, &mut workers, WorkerNo(0));
+    let above = assign_dequeue::<u32, Prq>(&control, &one, &mut workers, WorkerNo(2));
+    let first = assign_enqueue::<u32, Prq>(&control, &one, &mut workers, WorkerNo(1), 7);
+    let mut table = Table {
         kind: &Prq,
         control,
-        cells: &mut two,
+        cells: &mut one,
         workers: &mut workers,
     };
-    let counts = reply_number(misfit.step(WorkerNo(1)));
-    let mut table = Table {
-        cells: &mut one,
-        ..misfit
-    };
-    let nobody = reply_number(table.step(WorkerNo(0)));
-    let above = reply_number(table.assign_dequeue(WorkerNo(2)));
-    let first = reply_number(table.assign_enqueue(WorkerNo(1), 7));
-    let busy = reply_number(table.assign_dequeue(WorkerNo(1)));
+    let busy = table.assign_dequeue(WorkerNo(1));
     println!(rt;
-        "counts {counts}, worker 0 {nobody}, worker 2 of 1 {above}, assigned {first}, busy {busy}"
+        "counts {}, worker 0 {}, worker 2 of 1 {}, assigned {}, busy {}",
+        reply_number(counts),
+        reply_number(nobody),
+        reply_number(above),
+        reply_number(first),
+        reply_number(busy)
     )
 }
 
@@ -163,7 +167,7 @@ fn lay<const CELLS: usize, const RECORDS: usize>(rt: &HostRuntime) -> io::Result
     }
 }
 
-fn main(rt: HostRuntime) -> io::Result<()> {
+fn main(rt: HostRuntime) -> anyhow::Result<()> {
     let control = counting(1, false);
     engine_rows(&rt, control)?;
     kind_rows(&rt, control)?;
@@ -171,5 +175,6 @@ fn main(rt: HostRuntime) -> io::Result<()> {
     spent(&rt)?;
     lay::<1025, 65>(&rt)?;
     lay::<1024, 65>(&rt)?;
-    lay::<1024, 64>(&rt)
+    lay::<1024, 64>(&rt)?;
+    Ok(())
 }

@@ -71,7 +71,8 @@ fn job_of(word: &[u8], rest: &[u8]) -> Result<Job, ColumnFault>
     }
 }
 
-// The number behind a word.
+// The number behind a word. Inlined, as `read_number` is: its columns are known where a job is read.
+#[inline(always)]
 fn read_behind(rest: &[u8]) -> Result<u32, ColumnFault>
     ensures { result ≡ number_reading rest.now }
 {

@@ -1,6 +1,6 @@
 -- When the first line has just so many columns and an LF behind them, by the bytes.
-use Rattle.std.proofs.Common.{◌≡◌, ℕ, zero, suc, ◌<◌, true, false, eqb, List, [], ◌∷◌, ◌++◌, length, get_or, take, Bool, Some, sym, refl, ap, ◌∙◌, subst, inl, inr, append_assoc, arith}
-use Rattle.std.proofs.lemmas.List.{length-append, length-take-le, get_or_append_left, get_or_at}
+use Rattle.std.proofs.Common.{◌≡◌, ℕ, zero, suc, ◌+◌, ◌<◌, ◌≤◌, true, false, eqb, List, [], ◌∷◌, ◌++◌, length, get_or, take, Bool, Some, sym, refl, ap, ◌∙◌, subst, inl, inr, append_assoc, arith}
+use Rattle.std.proofs.lemmas.List.{length-append, length-take-le, get_or_append_left, get_or_at, get_or-take}
 use Rattle.std.specs.Prelude.{position}
 use Rattle.std.specs.List.{position_or_len}
 use Rattle.std.specs.Option.{option_eq}
@@ -61,6 +61,19 @@ shape_whole w bs s =
 
 pub not_whole : (w : ℕ) (bs : List ℕ) → (WholeShape w bs → ⊥) → first_whole w (lines_of bs) ≡ false
 not_whole w bs h = elim (cases_Bool (first_whole w (lines_of bs))) [ inl e ↦ absurd (h (whole_shape w bs e)) | inr e ↦ e ]
+
+-- by the bytes up to the end of a whole line alone
+pub whole_in_front : (w : ℕ) (bs : List ℕ) → w < length bs → first_whole w (lines_of (take (w + 1) bs)) ≡ first_whole w (lines_of bs)
+whole_in_front w bs room =
+    let front : List ℕ = take (w + 1) bs in
+    let same : (k : ℕ) → k ≤ w → get_or front k 0 ≡ get_or bs k 0 = λ k h. get_or-take (w + 1) bs k 0 (omega arith) in
+    elim (cases_Bool (first_whole w (lines_of bs))) [
+      | inl e ↦
+          let s = whole_shape w bs e in
+          shape_whole w front (record { room = omega (arith, length-take-le (w + 1) bs (omega arith)); ends = same w (omega arith) ∙ s.ends; clear = λ k p q. s.clear k p (sym (same k (omega arith)) ∙ q) }) ∙ sym e
+      | inr e ↦
+          not_whole w front (λ s. both_ways (first_whole w (lines_of bs)) e (shape_whole w bs (record { room = room; ends = sym (same w (omega arith)) ∙ s.ends; clear = λ k p q. s.clear k p (same k (omega arith) ∙ q) }))) ∙ sym e
+    ]
 
 -- by the place of the first LF
 pub whole_by_end : (w : ℕ) (bs : List ℕ) → option_eq eqb (position (λ b. eqb b LF) bs) (Some w) ≡ first_whole w (lines_of bs)

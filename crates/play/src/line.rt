@@ -17,7 +17,8 @@ use tickets::WorkerNo;
 // How many columns of an E line stand before its item.
 const ITEM_START: usize = 5;
 
-// The number in the columns `first` to `last`, counted from 1.
+// The number in the columns `first` to `last`, counted from 1. Inlined, as `read_number` is.
+#[inline(always)]
 fn field<N: ColumnNumber>(
     line: &[u8],
     first: usize,

@@ -51,7 +51,11 @@ fn is_whole(bytes: &[u8], width: usize) -> bool
     ensures value { result ≡ first_whole width (lines_of bytes.now) }
     ensures room { T result → width < length bytes.now }
 {
-    line_end(bytes) == Some(width)
+    if bytes.len() <= width {
+        return false;
+    }
+    // no byte behind a whole line is read: the first line may be as long as the play
+    line_end(&bytes[..=width]) == Some(width)
 }
 
 // The header that the first line says.
