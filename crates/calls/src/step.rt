@@ -72,7 +72,8 @@ impl<'m, I: Copy, K: RingKind<I>> Table<'m, I, K> {
 }
 
 // Performs one row for one worker. A function beside the method, for callers whose control stands by itself, behind a `&mut`:
-// it is read into a table, and written back.
+// it is read into a table, and written back. Inlined, as the method is.
+#[inline(always)]
 pub fn step<I: Copy, K: RingKind<I>>(
     kind: &K,
     control: &mut Control,
